@@ -28,7 +28,9 @@ related held locks matching writer predecessor = record {
 -- Task 0 acquires lock 63, task 1 acquires and releases lock 0, both write variable 0, and task 0 keeps its
 -- lock to the end.
 abbrev pub keeping : List ℕ
-keeping = recording (by 0 (acq 63 ∷ []) ++ by 1 (acq 0 ∷ wr 0 ∷ rel 0 ∷ []) ++ by 0 (wr 0 ∷ acq 0 ∷ rel 0 ∷ []))
+keeping =
+    recording
+    (by 0 (acq 63 ∷ []) ++ by 1 (acq 0 ∷ wr 0 ∷ rel 0 ∷ []) ++ by 0 (wr 0 ∷ acq 0 ∷ rel 0 ∷ []))
 
 -- All samples of answers.
 pub record SampleAnswers : Type 0 where

@@ -6,6 +6,7 @@ use mathlib.Core.Bool.{false}
 use mathlib.Core.List.{List, [], _∷_, _++_}
 use Rattle.model.specs.declared.Verdict.{Verdict}
 use Rattle.model.specs.declared.Listed.{Listed}
+use Rattle.model.specs.declared.Witness.{Witness}
 use Rattle.model.specs.Bytes.{encode}
 use Rattle.model.specs.Calls.Questions.{outcome}
 use Rattle.model.specs.Calls.Check.{check}
@@ -26,6 +27,10 @@ noPattern = record { refusal = 10; event = 0; deadlock = false }
 -- A listing that is refused with a number, at an event.
 abbrev pub unlisted : ℕ → ℕ → Listed
 unlisted n e = record { refusal = n; event = e; patterns = 0; bytes = 0 }
+
+-- A witness call that writes nothing, with its refusal.
+abbrev pub unwritten : ℕ → Witness
+unwritten n = record { refusal = n; event = 0; deadlock = false; bytes = 0 }
 
 -- All samples of questions.
 pub record SampleQuestions : Type 0 where
@@ -63,9 +68,9 @@ pub record SampleQuestions : Type 0 where
   pub twelve : close rowC (0x82 ∷ 0x20 ∷ []) ≡ record { refusal = 12; event = 0; added = 0 }
   pub twelve-kept : closeOut rowC (0x82 ∷ 0x20 ∷ []) ≡ 0x82 ∷ 0x20 ∷ []
   -- 13 of the witness, and only where the verdict is deadlock.
-  pub thirteen : witness rowA (encode (2 ∷ 6 ∷ [])) 3 ≡ record { refusal = 13; event = 0; deadlock = false; bytes = 0 }
+  pub thirteen : witness rowA (encode (2 ∷ 6 ∷ [])) 3 ≡ unwritten 13
   pub thirteen-kept : witnessOut rowA (encode (2 ∷ 6 ∷ [])) (blank 3) ≡ blank 3
-  pub thirteen-not : witness rowD (encode (2 ∷ 8 ∷ [])) 0 ≡ record { refusal = 0; event = 0; deadlock = false; bytes = 0 }
+  pub thirteen-not : witness rowD (encode (2 ∷ 8 ∷ [])) 0 ≡ unwritten 0
   -- 14.
   pub fourteen : load rowA 64 ≡ record { refusal = 14; event = 0; percent = 0 }
 
