@@ -1,0 +1,59 @@
+-- How one event changes a table of the latest event of each kind; what it holds is in specs/Walked.
+-- Assumes nothing.
+use Prim.Native.Nat.{ℕ, suc, _<_}
+use mathlib.Core.Path.{_≡_, _∙_}
+use mathlib.Core.Logic.{⊎-elim, _≢_}
+use mathlib.Core.Bool.{Bool, true, false, _&&_, and-false}
+use mathlib.Core.List.{List}
+use lib.Dec.{T, eqb}
+use lib.ListN.{length, getD, set, replicate, length-set, length-replicate, getD-replicate}
+use lib.Seq.{getD-set-same, getD-set-other}
+use borrow.Author.Tests.{eq-eqb, ne-eqb}
+use Rattle.model.specs.Lists.{lastBefore}
+use Rattle.model.specs.Trace.{Trace, task, object, isRead, isWrite, sameTask, sameObject}
+use Rattle.model.specs.Relations.{predecessor, writer}
+use Rattle.laws.specs.Walked.{LatestEvents}
+use Rattle.laws.proofs.Tests.{decided, equal?, is-true}
+
+module _ (test : ℕ → Bool) (key : ℕ → ℕ) where
+  -- Before event 1 there is none.
+  pub latest-start : (n : ℕ) → LatestEvents test key 1 (replicate n 0)
+  latest-start n = record { at = λ x h. none x (rw (length-replicate {A = ℕ} n 0) at h) }
+    where
+      none : (x : ℕ) → x < n → getD (replicate n 0) x 0 ≡ lastBefore 1 (λ f. test f && eqb x (key f))
+      none x h =
+          getD-replicate n x 0 0 h
+          ∙ decided (test 0 && eqb x (key 0)) (λ y. rw y) (λ y. rw y)
+
+  -- An event that passes is the latest of its key.
+  pub latest-set : (e : ℕ) (table : List ℕ) → LatestEvents test key e table → T (test e)
+      → key e < length table → LatestEvents test key (suc e) (set table (key e) e)
+  latest-set e table z t l = record { at = λ x h. ⊎-elim (same x) (other x (rw length-set at h)) (equal? x (key e)) }
+    where
+      same : (x : ℕ) → x ≡ key e
+          → getD (set table (key e) e) x 0 ≡ lastBefore (suc e) (λ f. test f && eqb x (key f))
+      same x q = rw (is-true (test e) t, eq-eqb x (key e) q, q) (getD-set-same table (key e) e 0 l)
+
+      other : (x : ℕ) → x < length table → x ≢ key e
+          → getD (set table (key e) e) x 0 ≡ lastBefore (suc e) (λ f. test f && eqb x (key f))
+      other x h d = rw (ne-eqb x (key e) d, and-false (test e)) (getD-set-other table (key e) x e 0 d ∙ z .at x h)
+
+  -- An event that does not pass changes nothing.
+  pub latest-keep : (e : ℕ) (table : List ℕ) → LatestEvents test key e table → test e ≡ false
+      → LatestEvents test key (suc e) table
+  latest-keep e table z f = record { at = λ x h. rw f (z .at x h) }
+
+-- ---- what the tables of a trace give
+
+module _ (σ : Trace) (e : ℕ) (table : List ℕ) where
+  -- The latest write of a read's variable is its writer.
+  pub latest-writer : LatestEvents (isWrite σ) (object σ) e table → isRead σ e ≡ true → object σ e < length table
+      → getD table (object σ e) 0 ≡ writer σ e
+  unfolding writer sameObject
+  latest-writer z r h = rw r (z .at (object σ e) h)
+
+  -- The latest event of an event's task is its predecessor.
+  pub latest-predecessor : LatestEvents (λ f. true) (task σ) e table → task σ e < length table
+      → getD table (task σ e) 0 ≡ predecessor σ e
+  unfolding predecessor sameTask
+  latest-predecessor z h = z .at (task σ e) h

@@ -1,0 +1,31 @@
+-- What the tables of a walk hold right before event e, in terms of the relations: the holder of a lock, the
+-- locks of each task, and the latest event of each kind. How one event changes them is in proofs/LatestEvents, Holders and Locksets.
+use Prim.Native.Nat.{ℕ, suc, _^_, _≤_, _<_}
+use mathlib.Core.Path.{_≡_}
+use mathlib.Core.Bool.{Bool, _&&_}
+use mathlib.Core.List.{List}
+use lib.Dec.{eqb}
+use lib.ListN.{length, getD}
+use Rattle.model.specs.Lists.{lastBefore, hasBit}
+use Rattle.model.specs.Trace.{Trace, tasks, locks}
+use Rattle.model.specs.Relations.{holds}
+
+-- The holder of lock l is task h - 1, or no task where h is 0.
+pub record Holder (σ : Trace) (e l h : ℕ) : Type 0 where
+  pub bound : h ≤ tasks
+  pub holder : (t : ℕ) → t < tasks → holds σ e t l ≡ eqb h (suc t)
+
+-- For each lock its holder.
+pub record Holders (σ : Trace) (e : ℕ) (table : List ℕ) : Type 0 where
+  pub long : length table ≡ locks
+  pub at : (l : ℕ) → l < locks → Holder σ e l (getD table l 0)
+
+-- For each task the mask of the locks that it holds.
+pub record Locksets (σ : Trace) (e : ℕ) (table : List ℕ) : Type 0 where
+  pub long : length table ≡ tasks
+  pub fits : (t : ℕ) → t < tasks → getD table t 0 < 2 ^ locks
+  pub at : (t l : ℕ) → t < tasks → l < locks → hasBit (getD table t 0) l ≡ holds σ e t l
+
+-- For each key x the latest event before e that passes the test and has this key, or 0.
+pub record LatestEvents (test : ℕ → Bool) (key : ℕ → ℕ) (e : ℕ) (table : List ℕ) : Type 0 where
+  pub at : (x : ℕ) → x < length table → getD table x 0 ≡ lastBefore e (λ f. test f && eqb x (key f))

@@ -1,0 +1,2 @@
+-- Laws of the check's walk; each function's proof is in a folder of its own.
+pub mod Laws

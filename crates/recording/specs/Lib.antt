@@ -1,0 +1,2 @@
+-- What the tables of the check hold; the check itself is defined in `model`.
+pub mod Asked

@@ -1,0 +1,131 @@
+// Recordings: the events of one, unpacked from its records, and the check of questions 1 to 7.
+// `records` is the part of a recording after its header of two bytes, wherever it stands.
+ghost use Prim.Native.Nat.{_+_, _*_, _-_, _<_, _≤_};
+ghost use mathlib.Core.Path.{_≡_};
+ghost use lib.ListN.{length};
+ghost use Rattle.model.specs.Trace.{at, task, object};
+ghost use Rattle.model.specs.Recording.{decodeAll, eventCount};
+ghost use Rattle.model.specs.WellFormed.{fault};
+ghost use Rattle.model.specs.Calls.Check.{checkEvents, check};
+ghost use Rattle.recording.specs.Asked.{Asked};
+use model::Outcome;
+
+// The operation of event e: the top 2 bits of its record.
+pub fn operation(records: &[u8], e: usize) -> u8
+    requires { ⌜ (1 ≤ e) × (2 * e ≤ length (now records)) ⌝ }
+    ensures { λ r. ⌜ (r < 4) × (r ≡ at (decodeAll (now (records .entry))) e .op) ⌝ }
+{
+    records[2 * (e - 1)] >> 6
+}
+
+// The task of event e: the next 4 bits.
+pub fn task(records: &[u8], e: usize) -> u8
+    requires { ⌜ (1 ≤ e) × (2 * e ≤ length (now records)) ⌝ }
+    ensures { λ r. ⌜ (r < 16) × (r ≡ task (decodeAll (now (records .entry))) e) ⌝ }
+{
+    (records[2 * (e - 1)] >> 2) & 15
+}
+
+// The lock or variable of event e: the low 10 bits.
+pub fn object(records: &[u8], e: usize) -> u16
+    requires { ⌜ (1 ≤ e) × (2 * e ≤ length (now records)) ⌝ }
+    ensures { λ r. ⌜ (r < 1024) × (r ≡ object (decodeAll (now (records .entry))) e) ⌝ }
+{
+    let at = 2 * (e - 1);
+    (((records[at] & 3) as u16) << 8) | (records[at + 1] as u16)
+}
+
+// Puts questions 4 to 7 to event e, with the holder of each lock (its task plus 1, or 0) and the latest write
+// of each variable: the number of the first "no", or 0, and then the tables stand before the next event.
+fn ask(records: &[u8], e: usize, holders: &mut [u8], writes: &mut [u16]) -> u64
+    requires { ⌜ (1 ≤ e) × (2 * e ≤ length (now records)) × (e < 4096)
+        × Asked (decodeAll (now records)) e (now holders) (now writes) ⌝ }
+    ensures { λ r. ⌜ (r ≡ fault (decodeAll (now (records .entry))) e)
+        × (r ≡ 0 → Asked (decodeAll (now (records .entry))) (e + 1) (now (holders .exit)) (now (writes .exit))) ⌝ }
+{
+    let op = operation(records, e);
+    let task = task(records, e);
+    let at = object(records, e) as usize;
+    if op == 0 {
+        if writes[at] == 0 {
+            return 7;
+        }
+        return 0;
+    }
+    if op == 1 {
+        writes[at] = e as u16;
+        return 0;
+    }
+    if 64 <= at {
+        return 4;
+    }
+    if op == 2 {
+        if holders[at] != 0 {
+            return 5;
+        }
+        holders[at] = task + 1;
+        return 0;
+    }
+    if holders[at] != task + 1 {
+        return 6;
+    }
+    holders[at] = 0;
+    0
+}
+
+// Puts questions 4 to 7 event by event: the earliest event with a "no" decides.
+fn check_events(records: &[u8]) -> Outcome
+    requires { ⌜ length (now records) ≤ 8190 ⌝ }
+    ensures { λ r. ⌜ r ≡ checkEvents (decodeAll (now (records .entry))) ⌝ }
+{
+    let mut holders = [0u8; 64];
+    let mut writes = [0u16; 1024];
+    let mut e = 1;
+    while e <= records.len() / 2 {
+        let refusal = ask(records, e, &mut holders, &mut writes);
+        if refusal != 0 {
+            return Outcome {
+                refusal,
+                event: e as u64,
+            };
+        }
+        e = e + 1;
+    }
+    Outcome {
+        refusal: 0,
+        event: 0,
+    }
+}
+
+// The event count that the header gives, in the low 12 bits.
+pub fn event_count(recording: &[u8]) -> usize
+    requires { ⌜ 2 ≤ length (now recording) ⌝ }
+    ensures { λ r. ⌜ (r < 4096) × (r ≡ eventCount (now (recording .entry))) ⌝ }
+{
+    (((recording[0] & 15) as usize) << 8) | (recording[1] as usize)
+}
+
+// Checks a recording: questions 1 to 3 on its bytes, and 4 to 7 on the part after its header.
+pub fn check(recording: &[u8]) -> Outcome
+    ensures { λ r. ⌜ r ≡ check (now (recording .entry)) ⌝ }
+{
+    if recording.len() < 2 {
+        return Outcome {
+            refusal: 1,
+            event: 0,
+        };
+    }
+    if recording[0] >> 4 != 1 {
+        return Outcome {
+            refusal: 2,
+            event: 0,
+        };
+    }
+    if recording.len() != 2 + 2 * event_count(recording) {
+        return Outcome {
+            refusal: 3,
+            event: 0,
+        };
+    }
+    check_events(&recording[2..])
+}
