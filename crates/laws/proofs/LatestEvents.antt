@@ -1,10 +1,11 @@
--- How one event changes a table of the latest event of each kind; what it holds is in specs/Walked.
--- Assumes nothing.
-use Prim.Native.Nat.{ℕ, suc, _<_}
+-- How one event changes a table of the latest event of each kind, and one that is filled event by event; what
+-- they hold is in specs/Walked. Assumes nothing.
+use Prim.Native.Nat.{ℕ, suc, _+_, _≤_, _<_}
 use mathlib.Core.Path.{_≡_, _∙_}
 use mathlib.Core.Logic.{⊎-elim, _≢_}
 use mathlib.Core.Bool.{Bool, true, false, _&&_, and-false}
 use mathlib.Core.List.{List}
+use native.Mathlib.Omega.{arith}
 use lib.Dec.{T, eqb}
 use lib.ListN.{length, getD, set, replicate, length-set, length-replicate, getD-replicate}
 use lib.Seq.{getD-set-same, getD-set-other}
@@ -12,7 +13,7 @@ use borrow.Author.Tests.{eq-eqb, ne-eqb}
 use Rattle.model.specs.Lists.{lastBefore}
 use Rattle.model.specs.Trace.{Trace, task, object, isRead, isWrite, sameTask, sameObject}
 use Rattle.model.specs.Relations.{predecessor, writer}
-use Rattle.laws.specs.Walked.{LatestEvents}
+use Rattle.laws.specs.Walked.{LatestEvents, Filled}
 use Rattle.laws.proofs.Tests.{decided, equal?, is-true}
 
 module _ (test : ℕ → Bool) (key : ℕ → ℕ) where
@@ -42,6 +43,25 @@ module _ (test : ℕ → Bool) (key : ℕ → ℕ) where
   pub latest-keep : (e : ℕ) (table : List ℕ) → LatestEvents test key e table → test e ≡ false
       → LatestEvents test key (suc e) table
   latest-keep e table z f = record { at = λ x h. rw f (z .at x h) }
+
+-- ---- what is filled event by event
+
+module _ (relation : ℕ → ℕ) where
+  -- Before event 1 there is nothing.
+  pub filled-start : (table : List ℕ) → Filled relation 1 table
+  filled-start table = record { at = λ f h k. absurd (omega arith) }
+
+  -- Event e gets what the relation gives.
+  pub filled-set : (e v : ℕ) (table : List ℕ) → Filled relation e table → e < length table → v ≡ relation e
+      → Filled relation (e + 1) (set table e v)
+  filled-set e v table z l q =
+      record { at = λ f h k. ⊎-elim (new f) (old f h (omega arith)) (equal? f e) }
+    where
+      new : (f : ℕ) → f ≡ e → getD (set table e v) f 0 ≡ relation f
+      new f r = rw r (getD-set-same table e v 0 l ∙ q)
+
+      old : (f : ℕ) → 1 ≤ f → f ≤ e → f ≢ e → getD (set table e v) f 0 ≡ relation f
+      old f h k d = getD-set-other table e f v 0 d ∙ z .at f h (omega arith)
 
 -- ---- what the tables of a trace give
 

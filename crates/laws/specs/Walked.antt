@@ -1,14 +1,14 @@
 -- What the tables of a walk hold right before event e, in terms of the relations: the holder of a lock, the
 -- locks of each task, and the latest event of each kind. How one event changes them is in proofs/LatestEvents, Holders and Locksets.
-use Prim.Native.Nat.{ℕ, suc, _^_, _≤_, _<_}
+use Prim.Native.Nat.{ℕ, suc, _-_, _^_, _≤_, _<_}
 use mathlib.Core.Path.{_≡_}
-use mathlib.Core.Bool.{Bool, _&&_}
+use mathlib.Core.Bool.{Bool, cond, _&&_}
 use mathlib.Core.List.{List}
 use lib.Dec.{eqb}
 use lib.ListN.{length, getD}
-use Rattle.model.specs.Lists.{lastBefore, hasBit}
-use Rattle.model.specs.Trace.{Trace, tasks, locks}
-use Rattle.model.specs.Relations.{holds}
+use Rattle.model.specs.Lists.{lastBefore, firstFrom, hasBit}
+use Rattle.model.specs.Trace.{Trace, tasks, locks, isAcquire, isRelease, sameTask, sameObject}
+use Rattle.model.specs.Relations.{acquireOf, holds}
 
 -- The holder of lock l is task h - 1, or no task where h is 0.
 pub record Holder (σ : Trace) (e l h : ℕ) : Type 0 where
@@ -29,3 +29,18 @@ pub record Locksets (σ : Trace) (e : ℕ) (table : List ℕ) : Type 0 where
 -- For each key x the latest event before e that passes the test and has this key, or 0.
 pub record LatestEvents (test : ℕ → Bool) (key : ℕ → ℕ) (e : ℕ) (table : List ℕ) : Type 0 where
   pub at : (x : ℕ) → x < length table → getD table x 0 ≡ lastBefore e (λ f. test f && eqb x (key f))
+
+-- For each event before e what the relation gives.
+pub record Filled (relation : ℕ → ℕ) (e : ℕ) (table : List ℕ) : Type 0 where
+  pub at : (f : ℕ) → 1 ≤ f → f < e → getD table f 0 ≡ relation f
+
+-- The match of event f, as far as the events before e show it: of an acquire, the first release of it there.
+unfoldable pub matchingBefore : Trace → ℕ → ℕ → ℕ
+matchingBefore σ e f =
+    cond (isAcquire σ f)
+    (firstFrom (suc f) (e - suc f) (λ g. isRelease σ g && sameObject σ f g && sameTask σ f g))
+    (cond (isRelease σ f) (acquireOf σ f) 0)
+
+-- For each event before e its match, as far as these events show it.
+pub record Matches (σ : Trace) (e : ℕ) (table : List ℕ) : Type 0 where
+  pub at : (f : ℕ) → 1 ≤ f → f < e → getD table f 0 ≡ matchingBefore σ e f

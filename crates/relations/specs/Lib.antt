@@ -1,0 +1,2 @@
+-- What the tables of a recording hold; the relations themselves are defined in `model`.
+pub mod Tables

@@ -1,0 +1,122 @@
+// The relations of a recording's events: tables of all of them, filled in one pass over its records, and the
+// call that gives those of one event. Tables are lent, and have an entry for each event number to 4,095.
+ghost use Prim.Native.Nat.{_+_, _*_, _/_, _<_, _≤_};
+ghost use mathlib.Core.Path.{_≡_};
+ghost use mathlib.Core.Bool.{true};
+ghost use lib.ListN.{length};
+ghost use Rattle.model.specs.Trace.{task, object, isWrite, isAcquire};
+ghost use Rattle.model.specs.Recording.{decodeAll};
+ghost use Rattle.model.specs.Relations.{predecessor, writer, held};
+ghost use Rattle.model.specs.Calls.Check.{checkEvents};
+ghost use Rattle.laws.specs.Walked.{Filled, LatestEvents, Locksets, Matches};
+ghost use Rattle.relations.specs.Tables.{operation, Tables};
+
+// Notes what event e's own record says.
+fn note_record(
+    records: &[u8],
+    e: usize,
+    operations: &mut [u8],
+    tasks: &mut [u8],
+    objects: &mut [u16],
+)
+    requires { ⌜ (1 ≤ e) × (2 * e ≤ length (now records)) × (e < 4096)
+        × (length (now operations) ≡ 4096) × (length (now tasks) ≡ 4096) × (length (now objects) ≡ 4096)
+        × Filled (operation (decodeAll (now records))) e (now operations)
+        × Filled (task (decodeAll (now records))) e (now tasks)
+        × Filled (object (decodeAll (now records))) e (now objects) ⌝ }
+    ensures { λ r. ⌜ Filled (operation (decodeAll (now (records .entry)))) (e + 1) (now (operations .exit))
+        × Filled (task (decodeAll (now (records .entry)))) (e + 1) (now (tasks .exit))
+        × Filled (object (decodeAll (now (records .entry)))) (e + 1) (now (objects .exit)) ⌝ }
+{
+    operations[e] = recording::operation(records, e);
+    tasks[e] = recording::task(records, e);
+    objects[e] = recording::object(records, e);
+}
+
+// Notes event e's predecessor: the latest event of its task.
+fn note_task(records: &[u8], e: usize, predecessors: &mut [u16], latest: &mut [u16])
+    requires { ⌜ (1 ≤ e) × (2 * e ≤ length (now records)) × (e < 4096)
+        × (length (now predecessors) ≡ 4096) × (length (now latest) ≡ 16)
+        × Filled (predecessor (decodeAll (now records))) e (now predecessors)
+        × LatestEvents (λ f. true) (task (decodeAll (now records))) e (now latest) ⌝ }
+    ensures { λ r. ⌜ (length (now (latest .exit)) ≡ 16)
+        × Filled (predecessor (decodeAll (now (records .entry)))) (e + 1) (now (predecessors .exit))
+        × LatestEvents (λ f. true) (task (decodeAll (now (records .entry)))) (e + 1) (now (latest .exit)) ⌝ }
+{
+    let t = recording::task(records, e) as usize;
+    predecessors[e] = latest[t];
+    latest[t] = e as u16;
+}
+
+// Notes event e's writer: of a read, the latest write of its variable.
+fn note_access(records: &[u8], e: usize, writers: &mut [u16], writes: &mut [u16])
+    requires { ⌜ (1 ≤ e) × (2 * e ≤ length (now records)) × (e < 4096)
+        × (length (now writers) ≡ 4096) × (length (now writes) ≡ 1024)
+        × Filled (writer (decodeAll (now records))) e (now writers)
+        × LatestEvents (isWrite (decodeAll (now records))) (object (decodeAll (now records))) e (now writes) ⌝ }
+    ensures { λ r. ⌜ (length (now (writes .exit)) ≡ 1024)
+        × Filled (writer (decodeAll (now (records .entry)))) (e + 1) (now (writers .exit))
+        × LatestEvents (isWrite (decodeAll (now (records .entry)))) (object (decodeAll (now (records .entry))))
+        (e + 1) (now (writes .exit)) ⌝ }
+{
+    let op = recording::operation(records, e);
+    let v = recording::object(records, e) as usize;
+    if op == 0 {
+        writers[e] = writes[v];
+        return;
+    }
+    writers[e] = 0;
+    if op == 1 {
+        writes[v] = e as u16;
+    }
+}
+
+// Notes event e's held locks: those of its task, to which an acquire then adds its lock, and from which a
+// release takes it.
+fn note_held(records: &[u8], e: usize, holding: &mut [u64], locksets: &mut [u64])
+    requires { ⌜ (1 ≤ e) × (2 * e ≤ length (now records)) × (e < 4096) × (length (now holding) ≡ 4096)
+        × (checkEvents (decodeAll (now records)) .refusal ≡ 0)
+        × Filled (held (decodeAll (now records))) e (now holding)
+        × Locksets (decodeAll (now records)) e (now locksets) ⌝ }
+    ensures { λ r. ⌜ Filled (held (decodeAll (now (records .entry)))) (e + 1) (now (holding .exit))
+        × Locksets (decodeAll (now (records .entry))) (e + 1) (now (locksets .exit)) ⌝ }
+{
+    let op = recording::operation(records, e);
+    let t = recording::task(records, e) as usize;
+    let mask = locksets[t];
+    holding[e] = mask;
+    if op == 2 {
+        locksets[t] = mask | (1 << (recording::object(records, e) as u64));
+        return;
+    }
+    if op == 3 {
+        locksets[t] = mask ^ (1 << (recording::object(records, e) as u64));
+    }
+}
+
+// Notes event e's match: a release and the latest acquire of its lock are each other's.
+fn note_match(records: &[u8], e: usize, matches: &mut [u16], acquires: &mut [u16])
+    requires { ⌜ (1 ≤ e) × (2 * e ≤ length (now records)) × (e < 4096)
+        × (length (now matches) ≡ 4096) × (length (now acquires) ≡ 64)
+        × (checkEvents (decodeAll (now records)) .refusal ≡ 0)
+        × Matches (decodeAll (now records)) e (now matches)
+        × LatestEvents (isAcquire (decodeAll (now records))) (object (decodeAll (now records))) e (now acquires) ⌝ }
+    ensures { λ r. ⌜ (length (now (acquires .exit)) ≡ 64)
+        × Matches (decodeAll (now (records .entry))) (e + 1) (now (matches .exit))
+        × LatestEvents (isAcquire (decodeAll (now (records .entry)))) (object (decodeAll (now (records .entry))))
+        (e + 1) (now (acquires .exit)) ⌝ }
+{
+    let op = recording::operation(records, e);
+    let l = recording::object(records, e) as usize;
+    if op == 3 {
+        let a = acquires[l];
+        let at = a as usize;
+        matches[at] = e as u16;
+        matches[e] = a;
+        return;
+    }
+    matches[e] = 0;
+    if op == 2 {
+        acquires[l] = e as u16;
+    }
+}
