@@ -9,7 +9,7 @@ use native.Mathlib.Numerals.{add-one}
 use native.Mathlib.Omega.{arith}
 use lib.Bits.{bitOr, bitXor}
 use lib.Dec.{T, eqb}
-use lib.ListN.{length, getD, set, length-set}
+use lib.ListN.{length, getD, set, replicate, length-replicate}
 use borrow.Author.Tests.{eq-eqb, ne-eqb}
 use Rattle.model.specs.Trace.{Trace, tasks, locks, at, task, object, isRead, isWrite, isAcquire, isRelease}
 use Rattle.model.specs.Recording.{decodeAll}
@@ -19,11 +19,13 @@ use Rattle.laws.specs.Walked.{Filled, LatestEvents, Locksets, Matches}
 use Rattle.laws.proofs.Tests.{or-l, or-r, is-true, equal?}
 use Rattle.laws.proofs.Trace.{decodeAll-length}
 use Rattle.laws.proofs.LatestEvents.{latest-set, latest-keep, latest-writer, latest-predecessor, filled-set}
-use Rattle.laws.proofs.Locksets.{locksets-held, locksets-acquire, locksets-release, locksets-access}
+use Rattle.laws.proofs.LatestEvents.{latest-start, filled-start}
+use Rattle.laws.proofs.Locksets.{locksets-start, locksets-held, locksets-acquire, locksets-release, locksets-access}
 use Rattle.laws.proofs.Faults.{isRead-op, isWrite-op, isAcquire-op, isRelease-op}
 use Rattle.laws.proofs.WellFormed.{WellFormed, lock-lt, release-held}
-use Rattle.laws.proofs.Matches.{opened-acquire, matches-keep, matches-release}
+use Rattle.laws.proofs.Matches.{opened-acquire, matches-start, matches-keep, matches-release, matches-end}
 use Rattle.laws.proofs.Questions.{events-sound}
+use Rattle.relations.specs.Tables.{operation, Tables, Long, Noted}
 
 -- ---- the predecessor
 
@@ -175,3 +177,48 @@ module _ (b : List ℕ) (accepted : checkEvents (decodeAll b) .refusal ≡ 0) (e
     no-acquire-latest d =
         rw (add-one e)
         (latest-keep (isAcquire (decodeAll b)) (object (decodeAll b)) e acquires z (no-acquire d))
+
+-- ---- the whole
+
+-- Before event 1 the tables are clear.
+pub noted-start : (σ : Trace) (operations tasks objects holding predecessors writers matches : List ℕ)
+    → Long operations tasks objects holding predecessors writers matches
+    → Noted σ 1 operations tasks objects holding predecessors writers matches
+    (replicate 16 0) (replicate 1024 0) (replicate 16 0) (replicate 64 0)
+noted-start σ operations tasks objects holding predecessors writers matches long = record {
+  long = long;
+  latest-long = refl;
+  write-long = length-replicate {A = ℕ} 1024 0;
+  acquire-long = refl;
+  operation-filled = filled-start (operation σ) operations;
+  task-filled = filled-start (task σ) tasks;
+  object-filled = filled-start (object σ) objects;
+  held-filled = filled-start (held σ) holding;
+  predecessor-filled = filled-start (predecessor σ) predecessors;
+  writer-filled = filled-start (writer σ) writers;
+  matching-filled = matches-start σ matches;
+  latest-event = latest-start (λ f. true) (task σ) 16;
+  latest-write = latest-start (isWrite σ) (object σ) 1024;
+  lockset = locksets-start σ;
+  latest-acquire = latest-start (isAcquire σ) (object σ) 64;
+}
+
+-- After the last event each table has its relation for every event.
+pub noted-end : (b : List ℕ) (e : ℕ)
+    {operations tasks objects holding predecessors writers matches latest writes locksets acquires : List ℕ}
+    → Noted (decodeAll b) e operations tasks objects holding predecessors writers matches latest writes locksets
+    acquires
+    → e ≤ length b / 2 + 1 → length b / 2 < e
+    → Tables (decodeAll b) operations tasks objects holding predecessors writers matches
+noted-end b e {matches = matches} z h k = record {
+  operation-at = λ f i j. z .operation-filled .at f i (omega (arith, decodeAll-length b));
+  task-at = λ f i j. z .task-filled .at f i (omega (arith, decodeAll-length b));
+  object-at = λ f i j. z .object-filled .at f i (omega (arith, decodeAll-length b));
+  held-at = λ f i j. z .held-filled .at f i (omega (arith, decodeAll-length b));
+  predecessor-at = λ f i j. z .predecessor-filled .at f i (omega (arith, decodeAll-length b));
+  writer-at = λ f i j. z .writer-filled .at f i (omega (arith, decodeAll-length b));
+  matching-at = matches-end (decodeAll b) matches (rw last at (z .matching-filled));
+}
+  where
+    last : e ≡ suc (length (decodeAll b))
+    last = omega (arith, decodeAll-length b)

@@ -2,10 +2,12 @@
 -- rests on this record alone.
 use Prim.Native.Nat.{ℕ, _≤_}
 use mathlib.Core.Path.{_≡_}
+use mathlib.Core.Bool.{true}
 use mathlib.Core.List.{List}
 use lib.ListN.{length, getD}
-use Rattle.model.specs.Trace.{Trace, at, task, object}
+use Rattle.model.specs.Trace.{Trace, at, task, object, isWrite, isAcquire}
 use Rattle.model.specs.Relations.{predecessor, writer, matching, held}
+use Rattle.laws.specs.Walked.{Filled, LatestEvents, Locksets, Matches}
 
 -- How long each table is: an entry for each event of the longest recording, and one for event number 0.
 abbrev pub tableLength : ℕ
@@ -25,3 +27,33 @@ pub record Tables (σ : Trace) (operations tasks objects holding predecessors wr
   pub predecessor-at : (e : ℕ) → 1 ≤ e → e ≤ length σ → getD predecessors e 0 ≡ predecessor σ e
   pub writer-at : (e : ℕ) → 1 ≤ e → e ≤ length σ → getD writers e 0 ≡ writer σ e
   pub matching-at : (e : ℕ) → 1 ≤ e → e ≤ length σ → getD matches e 0 ≡ matching σ e
+
+-- Each table has an entry for each event.
+pub record Long (operations tasks objects holding predecessors writers matches : List ℕ) : Type 0 where
+  pub operation-long : length operations ≡ tableLength
+  pub task-long : length tasks ≡ tableLength
+  pub object-long : length objects ≡ tableLength
+  pub held-long : length holding ≡ tableLength
+  pub predecessor-long : length predecessors ≡ tableLength
+  pub writer-long : length writers ≡ tableLength
+  pub matching-long : length matches ≡ tableLength
+
+-- The tables right before event e is noted: each has its relation for the earlier events, and the working
+-- tables hold what noting event e asks for.
+pub record Noted (σ : Trace) (e : ℕ) (operations tasks objects holding predecessors writers matches : List ℕ)
+    (latest writes locksets acquires : List ℕ) : Type 0 where
+  pub long : Long operations tasks objects holding predecessors writers matches
+  pub latest-long : length latest ≡ 16
+  pub write-long : length writes ≡ 1024
+  pub acquire-long : length acquires ≡ 64
+  pub operation-filled : Filled (operation σ) e operations
+  pub task-filled : Filled (task σ) e tasks
+  pub object-filled : Filled (object σ) e objects
+  pub held-filled : Filled (held σ) e holding
+  pub predecessor-filled : Filled (predecessor σ) e predecessors
+  pub writer-filled : Filled (writer σ) e writers
+  pub matching-filled : Matches σ e matches
+  pub latest-event : LatestEvents (λ f. true) (task σ) e latest
+  pub latest-write : LatestEvents (isWrite σ) (object σ) e writes
+  pub lockset : Locksets σ e locksets
+  pub latest-acquire : LatestEvents (isAcquire σ) (object σ) e acquires

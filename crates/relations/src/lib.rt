@@ -9,7 +9,7 @@ ghost use Rattle.model.specs.Recording.{decodeAll};
 ghost use Rattle.model.specs.Relations.{predecessor, writer, held};
 ghost use Rattle.model.specs.Calls.Check.{checkEvents};
 ghost use Rattle.laws.specs.Walked.{Filled, LatestEvents, Locksets, Matches};
-ghost use Rattle.relations.specs.Tables.{operation, Tables};
+ghost use Rattle.relations.specs.Tables.{operation, Tables, Noted};
 
 // Notes what event e's own record says.
 fn note_record(
@@ -118,5 +118,81 @@ fn note_match(records: &[u8], e: usize, matches: &mut [u16], acquires: &mut [u16
     matches[e] = 0;
     if op == 2 {
         acquires[l] = e as u16;
+    }
+}
+
+// Notes event e in every table.
+fn note_event(
+    records: &[u8],
+    e: usize,
+    operations: &mut [u8],
+    tasks: &mut [u8],
+    objects: &mut [u16],
+    holding: &mut [u64],
+    predecessors: &mut [u16],
+    writers: &mut [u16],
+    matches: &mut [u16],
+    latest: &mut [u16],
+    writes: &mut [u16],
+    locksets: &mut [u64],
+    acquires: &mut [u16],
+)
+    requires { ⌜ (1 ≤ e) × (2 * e ≤ length (now records)) × (e < 4096)
+        × (checkEvents (decodeAll (now records)) .refusal ≡ 0)
+        × Noted (decodeAll (now records)) e (now operations) (now tasks) (now objects) (now holding)
+        (now predecessors) (now writers) (now matches) (now latest) (now writes) (now locksets) (now acquires) ⌝ }
+    ensures { λ r. ⌜ Noted (decodeAll (now (records .entry))) (e + 1) (now (operations .exit)) (now (tasks .exit))
+        (now (objects .exit)) (now (holding .exit)) (now (predecessors .exit)) (now (writers .exit))
+        (now (matches .exit)) (now (latest .exit)) (now (writes .exit)) (now (locksets .exit))
+        (now (acquires .exit)) ⌝ }
+{
+    note_record(records, e, operations, tasks, objects);
+    note_task(records, e, predecessors, latest);
+    note_access(records, e, writers, writes);
+    note_held(records, e, holding, locksets);
+    note_match(records, e, matches, acquires);
+}
+
+// Fills the tables of the records, whose events are accepted: one pass, each event noted in turn.
+pub fn fill_tables(
+    records: &[u8],
+    operations: &mut [u8],
+    tasks: &mut [u8],
+    objects: &mut [u16],
+    holding: &mut [u64],
+    predecessors: &mut [u16],
+    writers: &mut [u16],
+    matches: &mut [u16],
+)
+    requires { ⌜ (length (now records) ≤ 8190) × (checkEvents (decodeAll (now records)) .refusal ≡ 0)
+        × (length (now operations) ≡ 4096) × (length (now tasks) ≡ 4096) × (length (now objects) ≡ 4096)
+        × (length (now holding) ≡ 4096) × (length (now predecessors) ≡ 4096) × (length (now writers) ≡ 4096)
+        × (length (now matches) ≡ 4096) ⌝ }
+    ensures { λ r. ⌜ Tables (decodeAll (now (records .entry))) (now (operations .exit)) (now (tasks .exit))
+        (now (objects .exit)) (now (holding .exit)) (now (predecessors .exit)) (now (writers .exit))
+        (now (matches .exit)) ⌝ }
+{
+    let mut latest = [0u16; 16];
+    let mut writes = [0u16; 1024];
+    let mut locksets = [0u64; 16];
+    let mut acquires = [0u16; 64];
+    let mut e = 1;
+    while e <= records.len() / 2 {
+        note_event(
+            records,
+            e,
+            operations,
+            tasks,
+            objects,
+            holding,
+            predecessors,
+            writers,
+            matches,
+            &mut latest,
+            &mut writes,
+            &mut locksets,
+            &mut acquires,
+        );
+        e = e + 1;
     }
 }

@@ -1,0 +1,152 @@
+-- `relations::note_event` meets its contract: each table is noted by its own function. Assumes nothing.
+use mathlib.Core.Path.{_∙_}
+use borrow.Author.Needs.{needs}
+use Rattle.relations.proofs.note_event.Statement.{statement}
+use Rattle.relations.proofs.note_event.Tie as tie
+
+note-record-requires : tie.Need-note-record-requires
+note-record-requires c κs = search needs
+
+note-task-requires : tie.Need-note-task-requires
+note-task-requires c κs = search needs
+
+note-access-requires : tie.Need-note-access-requires
+note-access-requires c κs =
+    let s =
+    c .before .before .before .before .before .before .before .before .before .before .before
+    .before .before .before .before .before .before .before .before .before .before .before .before
+    .before .before .before .before .before .before .before .before in
+    let z = s .pre .4 in
+    (s .pre .0, s .pre .1, s .pre .2, z .long .writer-long, z .write-long, z .writer-filled, z .latest-write)
+
+note-held-requires : tie.Need-note-held-requires
+note-held-requires c κs =
+    let s =
+    c .before .before .before .before .before .before .before .before .before .before .before
+    .before .before .before .before .before .before .before .before .before .before .before .before
+    .before .before .before .before .before .before .before .before .before .before .before .before
+    .before .before .before in
+    let z = s .pre .4 in
+    (s .pre .0, s .pre .1, s .pre .2, z .long .held-long, s .pre .3, z .held-filled, z .lockset)
+
+note-match-requires : tie.Need-note-match-requires
+note-match-requires c κs =
+    let s =
+    c .before .before .before .before .before .before .before .before .before .before .before
+    .before .before .before .before .before .before .before .before .before .before .before .before
+    .before .before .before .before .before .before .before .before .before .before .before .before
+    .before .before .before .before .before .before .before .before .before .before in
+    let z = s .pre .4 in (
+      s .pre .0,
+      s .pre .1,
+      s .pre .2,
+      z .long .matching-long,
+      z .acquire-long,
+      s .pre .3,
+      z .matching-filled,
+      z .latest-acquire,
+    )
+
+same-length : tie.Need-same-length
+same-length c = search needs
+
+same-length-2 : tie.Need-same-length-2
+same-length-2 c = search needs
+
+same-length-3 : tie.Need-same-length-3
+same-length-3 c = search needs
+
+same-length-4 : tie.Need-same-length-4
+same-length-4 c = search needs
+
+same-length-5 : tie.Need-same-length-5
+same-length-5 c = search needs
+
+same-length-6 : tie.Need-same-length-6
+same-length-6 c = search needs
+
+same-length-7 : tie.Need-same-length-7
+same-length-7 c = search needs
+
+same-length-8 : tie.Need-same-length-8
+same-length-8 c = search needs
+
+same-length-9 : tie.Need-same-length-9
+same-length-9 c = search needs
+
+same-length-10 : tie.Need-same-length-10
+same-length-10 c = search needs
+
+same-length-11 : tie.Need-same-length-11
+same-length-11 c = search needs
+
+returns : tie.Need-returns
+returns c =
+    let records =
+    c .before .before .before .before .before .before .before .before .before .before .before
+    .before .before .before .before .before .before .before .before .before .before .before .before
+    .before .before .before .before .before .before .before .before .before .before .before in
+    let tasks =
+    c .before .before .before .before .before .before .before .before .before .before .before
+    .before .before .before .before .before .before .before .before .before .before .before .before
+    .before .before in
+    let accesses =
+    c .before .before .before .before .before .before .before .before .before .before .before
+    .before .before .before .before .before .before .before in
+    let holds =
+    c .before .before .before .before .before .before .before .before .before .before .before in
+    let s =
+    c .before .before .before .before .before .before .before .before .before .before .before
+    .before .before .before .before .before .before .before .before .before .before .before .before
+    .before .before .before .before .before .before .before .before .before .before .before .before
+    .before .before .before .before .before .before .before .before .before .before .before .before
+    .before .before .before in
+    let z = s .pre .4 .long in
+    let matched = c .before .before .before .before in
+    record {
+      long = record {
+        operation-long = records .note-record .kept .1 .1 .0 ∙ z .operation-long;
+        task-long = records .note-record .kept .1 .1 .1 .0 ∙ z .task-long;
+        object-long = records .note-record .kept .1 .1 .1 .1 .0 ∙ z .object-long;
+        held-long = holds .note-held .kept .1 .1 .0 ∙ z .held-long;
+        predecessor-long = tasks .note-task .kept .1 .1 .0 ∙ z .predecessor-long;
+        writer-long = accesses .note-access .kept .1 .1 .0 ∙ z .writer-long;
+        matching-long = matched .note-match .kept .1 .1 .0 ∙ z .matching-long;
+      };
+      latest-long = tasks .note-task .ensures .0;
+      write-long = accesses .note-access .ensures .0;
+      acquire-long = matched .note-match .ensures .0;
+      operation-filled = records .note-record .ensures .0;
+      task-filled = records .note-record .ensures .1;
+      object-filled = records .note-record .ensures .2;
+      held-filled = holds .note-held .ensures .0;
+      predecessor-filled = tasks .note-task .ensures .1;
+      writer-filled = accesses .note-access .ensures .1;
+      matching-filled = matched .note-match .ensures .1;
+      latest-event = tasks .note-task .ensures .2;
+      latest-write = accesses .note-access .ensures .2;
+      lockset = holds .note-held .ensures .1;
+      latest-acquire = matched .note-match .ensures .2;
+    }
+
+pub note-event-spec : {M : Type 1} → statement M
+note-event-spec =
+    tie.close
+    (tie.spec
+    note-record-requires
+    note-task-requires
+    note-access-requires
+    note-held-requires
+    note-match-requires
+    same-length
+    same-length-2
+    same-length-3
+    same-length-4
+    same-length-5
+    same-length-6
+    same-length-7
+    same-length-8
+    same-length-9
+    same-length-10
+    same-length-11
+    returns)
