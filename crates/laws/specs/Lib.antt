@@ -1,3 +1,4 @@
--- What tables of a walk over a trace hold: definitions for the contracts of inner functions. 01 has none of
--- them, and no public contract names one.
+-- Definitions for the contracts of inner functions: what the tables of a walk over a trace hold, and the shapes
+-- of answers. No public contract names one.
 pub mod Walked
+pub mod Answered

@@ -8,6 +8,7 @@ use mathlib.Core.List.{List}
 use native.Mathlib.Numerals.{add-one}
 use native.Mathlib.Omega.{arith}
 use lib.Bits.{bitOr, bitXor}
+use lib.Count.{ones, ones-le}
 use lib.Dec.{T, eqb}
 use lib.ListN.{length, getD, set, replicate, length-replicate}
 use borrow.Author.Tests.{eq-eqb, ne-eqb}
@@ -15,6 +16,8 @@ use Rattle.model.specs.Trace.{Trace, tasks, locks, at, task, object, isRead, is
 use Rattle.model.specs.Recording.{decodeAll}
 use Rattle.model.specs.Relations.{predecessor, writer, matching, held}
 use Rattle.model.specs.Calls.Check.{checkEvents}
+use Rattle.model.specs.declared.Relations.{Relations}
+use Rattle.laws.specs.Answered.{eventRelations}
 use Rattle.laws.specs.Walked.{Filled, LatestEvents, Locksets, Matches}
 use Rattle.laws.proofs.Tests.{or-l, or-r, is-true, equal?}
 use Rattle.laws.proofs.Trace.{decodeAll-length}
@@ -22,6 +25,7 @@ use Rattle.laws.proofs.LatestEvents.{latest-set, latest-keep, latest-writer, la
 use Rattle.laws.proofs.LatestEvents.{latest-start, filled-start}
 use Rattle.laws.proofs.Locksets.{locksets-start, locksets-held, locksets-acquire, locksets-release, locksets-access}
 use Rattle.laws.proofs.Faults.{isRead-op, isWrite-op, isAcquire-op, isRelease-op}
+use Rattle.laws.proofs.Relations.{predecessor-below, writer-below, matching-le, held-lt}
 use Rattle.laws.proofs.WellFormed.{WellFormed, lock-lt, release-held}
 use Rattle.laws.proofs.Matches.{opened-acquire, matches-start, matches-keep, matches-release, matches-end}
 use Rattle.laws.proofs.Questions.{events-sound}
@@ -222,3 +226,38 @@ noted-end b e {matches = matches} z h k = record {
   where
     last : e ≡ suc (length (decodeAll b))
     last = omega (arith, decodeAll-length b)
+
+-- ---- one event's relations, off the tables
+
+module _ {σ : Trace} {operations tasks objects holding predecessors writers matches : List ℕ}
+    (z : Tables σ operations tasks objects holding predecessors writers matches) (e : ℕ) (h : 1 ≤ e)
+    (k : e ≤ length σ) where
+  -- The answer is what the tables have.
+  pub tables-answer : _≡_ {A = Relations}
+      (record {
+        refusal = 0;
+        event = 0;
+        held = getD holding e 0;
+        locks = ones (getD holding e 0);
+        matching = getD matches e 0;
+        writer = getD writers e 0;
+        predecessor = getD predecessors e 0;
+      })
+      (eventRelations σ e)
+  tables-answer = rw (z .held-at e h k, z .matching-at e h k, z .writer-at e h k, z .predecessor-at e h k)
+
+  -- The number of held locks fits,
+  pub locks-fit : ones (getD holding e 0) ≤ 64
+  locks-fit = rw (z .held-at e h k) (ones-le 64 (held σ e) (held-lt σ e))
+
+  -- and so does the number of each related event.
+  pub matching-fits : getD matches e 0 ≤ length σ
+  matching-fits = rw (z .matching-at e h k) (matching-le σ e k)
+
+  -- The writer's.
+  pub writer-fits : getD writers e 0 ≤ length σ
+  writer-fits = rw (z .writer-at e h k) (omega (arith, writer-below σ e))
+
+  -- The predecessor's.
+  pub predecessor-fits : getD predecessors e 0 ≤ length σ
+  predecessor-fits = rw (z .predecessor-at e h k) (omega (arith, predecessor-below σ e))

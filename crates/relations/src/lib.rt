@@ -8,6 +8,8 @@ ghost use Rattle.model.specs.Trace.{task, object, isWrite, isAcquire};
 ghost use Rattle.model.specs.Recording.{decodeAll};
 ghost use Rattle.model.specs.Relations.{predecessor, writer, held};
 ghost use Rattle.model.specs.Calls.Check.{checkEvents};
+ghost use Rattle.model.specs.Calls.Relations.{relations};
+ghost use Rattle.laws.specs.Answered.{refusedRelations, eventRelations};
 ghost use Rattle.laws.specs.Walked.{Filled, LatestEvents, Locksets, Matches};
 ghost use Rattle.relations.specs.Tables.{operation, Tables, Noted};
 
@@ -195,4 +197,72 @@ pub fn fill_tables(
         );
         e = e + 1;
     }
+}
+
+// A refused answer: its number and event, every other field zero.
+fn refused(refusal: u64, event: u64) -> model::Relations
+    ensures { λ r. ⌜ r ≡ refusedRelations refusal event ⌝ }
+{
+    model::Relations {
+        refusal,
+        event,
+        held: 0,
+        locks: 0,
+        matching: 0,
+        writer: 0,
+        predecessor: 0,
+    }
+}
+
+// The relations of event e of records whose events are accepted, read off the tables.
+fn relations_of(records: &[u8], e: usize) -> model::Relations
+    requires { ⌜ (length (now records) ≤ 8190) × (checkEvents (decodeAll (now records)) .refusal ≡ 0)
+        × (1 ≤ e) × (e ≤ length (now records) / 2) ⌝ }
+    ensures { λ r. ⌜ r ≡ eventRelations (decodeAll (now (records .entry))) e ⌝ }
+{
+    let mut operations = [0u8; 4096];
+    let mut tasks = [0u8; 4096];
+    let mut objects = [0u16; 4096];
+    let mut holding = [0u64; 4096];
+    let mut predecessors = [0u16; 4096];
+    let mut writers = [0u16; 4096];
+    let mut matches = [0u16; 4096];
+    fill_tables(
+        records,
+        &mut operations,
+        &mut tasks,
+        &mut objects,
+        &mut holding,
+        &mut predecessors,
+        &mut writers,
+        &mut matches,
+    );
+    let mask = holding[e];
+    model::Relations {
+        refusal: 0,
+        event: 0,
+        held: mask,
+        locks: u64::count_ones(mask) as u64,
+        matching: matches[e] as u64,
+        writer: writers[e] as u64,
+        predecessor: predecessors[e] as u64,
+    }
+}
+
+// The relations of one event: question 9, then its held locks and their count, match, writer and predecessor.
+pub fn relations(recording: &[u8], event: u64) -> model::Relations
+    ensures { λ r. ⌜ r ≡ relations (now (recording .entry)) event ⌝ }
+{
+    let checked = recording::check(recording);
+    if checked.refusal != 0 {
+        return refused(checked.refusal, checked.event);
+    }
+    if event == 0 {
+        return refused(9, 0);
+    }
+    let n = recording::event_count(recording);
+    if (n as u64) < event {
+        return refused(9, 0);
+    }
+    relations_of(&recording[2..], event as usize)
 }

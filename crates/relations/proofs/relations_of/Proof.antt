@@ -1,0 +1,131 @@
+-- `relations::relations_of` meets its contract: the tables have the relations of each event. Assumes nothing.
+use Prim.Native.Nat.{_≤_}
+use native.Mathlib.Omega.{arith}
+use borrow.Author.Needs.{needs}
+use lib.ListN.{length}
+use Rattle.model.specs.Recording.{decodeAll}
+use Rattle.laws.proofs.Trace.{decodeAll-length}
+use Rattle.relations.specs.Tables.{Tables}
+use Rattle.relations.proofs.Laws.{tables-answer, locks-fit, matching-fits, writer-fits, predecessor-fits}
+use Rattle.relations.proofs.relations_of.Statement.{statement}
+use Rattle.relations.proofs.relations_of.Tie as tie
+
+-- The entry, from where the tables are filled.
+abbrev start : tie.After-matches2 → tie.Start
+start c =
+    c .before .before .before .before .before .before .before .before .before .before .before .before .before
+    .before .before .before
+
+-- The event is one of the records.
+inside : (s : tie.Start) → s .args .e ≤ length (decodeAll (s .args .records .now))
+inside s = omega (arith, s .pre .3, decodeAll-length (s .args .records .now))
+
+-- The filled tables.
+filled : (c : tie.After-matches2)
+    → Tables (decodeAll (start c .args .records .now))
+    (c .before .before .before .before .before .before .before .fill-tables .last .1 .0)
+    (c .before .before .before .before .before .before .before .fill-tables .last .1 .1 .0)
+    (c .before .before .before .before .before .before .before .fill-tables .last .1 .1 .1 .0)
+    (c .before .before .before .before .before .before .before .fill-tables .last .1 .1 .1 .1 .0)
+    (c .before .before .before .before .before .before .before .fill-tables .last .1 .1 .1 .1 .1 .0)
+    (c .before .before .before .before .before .before .before .fill-tables .last .1 .1 .1 .1 .1 .1 .0)
+    (c .before .before .before .before .before .before .before .fill-tables .last .1 .1 .1 .1 .1 .1 .1 .0)
+filled c = c .before .before .before .before .before .before .before .fill-tables .ensures
+
+slice-aggregate-fill-tables : tie.Need-slice-aggregate-fill-tables
+slice-aggregate-fill-tables c = search needs
+
+slice-aggregate-fill-tables-2 : tie.Need-slice-aggregate-fill-tables-2
+slice-aggregate-fill-tables-2 c = search needs
+
+slice-aggregate-fill-tables-3 : tie.Need-slice-aggregate-fill-tables-3
+slice-aggregate-fill-tables-3 c = search needs
+
+slice-aggregate-fill-tables-4 : tie.Need-slice-aggregate-fill-tables-4
+slice-aggregate-fill-tables-4 c = search needs
+
+slice-aggregate-fill-tables-5 : tie.Need-slice-aggregate-fill-tables-5
+slice-aggregate-fill-tables-5 c = search needs
+
+slice-aggregate-fill-tables-6 : tie.Need-slice-aggregate-fill-tables-6
+slice-aggregate-fill-tables-6 c = search needs
+
+slice-aggregate-fill-tables-7 : tie.Need-slice-aggregate-fill-tables-7
+slice-aggregate-fill-tables-7 c = search needs
+
+fill-tables-requires : tie.Need-fill-tables-requires
+fill-tables-requires c κs = search needs
+
+mul-mask : tie.Need-mul-mask
+mul-mask c = search needs
+
+array-read-mask : tie.Need-array-read-mask
+array-read-mask c = search needs
+
+cast-t29 : tie.Need-cast-t29
+cast-t29 c =
+    let s = start c in
+    omega (arith, s .pre, decodeAll-length (s .args .records .now), locks-fit (filled c) (s .args .e) (s .pre .2) (inside s))
+
+mul-t26 : tie.Need-mul-t26
+mul-t26 c = search needs
+
+array-read-t33 : tie.Need-array-read-t33
+array-read-t33 c = search needs
+
+cast-t34 : tie.Need-cast-t34
+cast-t34 c =
+    let s = start c in
+    omega (arith, s .pre, decodeAll-length (s .args .records .now), matching-fits (filled c) (s .args .e) (s .pre .2) (inside s))
+
+mul-t35 : tie.Need-mul-t35
+mul-t35 c = search needs
+
+array-read-t38 : tie.Need-array-read-t38
+array-read-t38 c = search needs
+
+cast-t39 : tie.Need-cast-t39
+cast-t39 c =
+    let s = start c in
+    omega (arith, s .pre, decodeAll-length (s .args .records .now), writer-fits (filled c) (s .args .e) (s .pre .2) (inside s))
+
+mul-t40 : tie.Need-mul-t40
+mul-t40 c = search needs
+
+array-read-t43 : tie.Need-array-read-t43
+array-read-t43 c = search needs
+
+cast-t44 : tie.Need-cast-t44
+cast-t44 c =
+    let s = start c in
+    omega (arith, s .pre, decodeAll-length (s .args .records .now), predecessor-fits (filled c) (s .args .e) (s .pre .2) (inside s))
+
+returns : tie.Need-returns
+returns c =
+    let s = start c in tables-answer (filled c) (s .args .e) (s .pre .2) (inside s)
+
+pub relations-of-spec : {M : Type 1} → statement M
+relations-of-spec =
+    tie.close
+    (tie.spec
+    slice-aggregate-fill-tables
+    slice-aggregate-fill-tables-2
+    slice-aggregate-fill-tables-3
+    slice-aggregate-fill-tables-4
+    slice-aggregate-fill-tables-5
+    slice-aggregate-fill-tables-6
+    slice-aggregate-fill-tables-7
+    fill-tables-requires
+    mul-mask
+    array-read-mask
+    cast-t29
+    mul-t26
+    array-read-t33
+    cast-t34
+    mul-t35
+    array-read-t38
+    cast-t39
+    mul-t40
+    array-read-t43
+    cast-t44
+    returns)
