@@ -19,7 +19,8 @@ use Rattle.laws.specs.Answered.{refusedRelations, eventRelations, refuse
 
 module _ (b : List ℕ) (e : ℕ) where
   -- A recording that is refused.
-  pub relations-unchecked : check b .refusal ≢ 0 → relations b e ≡ refusedRelations (check b .refusal) (check b .event)
+  pub relations-unchecked : check b .refusal ≢ 0 → relations b e ≡ refusedRelations (check b .refusal)
+      (check b .event)
   unfolding relations relationsRefusal
   relations-unchecked d = rw (ne-eqb (check b .refusal) 0 d, ne-eqb (check b .refusal) 0 d)
 

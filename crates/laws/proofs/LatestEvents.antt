@@ -29,7 +29,10 @@ module _ (test : ℕ → Bool) (key : ℕ → ℕ) where
   -- An event that passes is the latest of its key.
   pub latest-set : (e : ℕ) (table : List ℕ) → LatestEvents test key e table → T (test e)
       → key e < length table → LatestEvents test key (suc e) (set table (key e) e)
-  latest-set e table z t l = record { at = λ x h. ⊎-elim (same x) (other x (rw length-set at h)) (equal? x (key e)) }
+  latest-set e table z t l = record {
+    at = λ x h. ⊎-elim (same x) (other x (rw length-set at h))
+        (equal? x (key e));
+  }
     where
       same : (x : ℕ) → x ≡ key e
           → getD (set table (key e) e) x 0 ≡ lastBefore (suc e) (λ f. test f && eqb x (key f))
@@ -37,7 +40,8 @@ module _ (test : ℕ → Bool) (key : ℕ → ℕ) where
 
       other : (x : ℕ) → x < length table → x ≢ key e
           → getD (set table (key e) e) x 0 ≡ lastBefore (suc e) (λ f. test f && eqb x (key f))
-      other x h d = rw (ne-eqb x (key e) d, and-false (test e)) (getD-set-other table (key e) x e 0 d ∙ z .at x h)
+      other x h d = rw (ne-eqb x (key e) d, and-false (test e))
+          (getD-set-other table (key e) x e 0 d ∙ z .at x h)
 
   -- An event that does not pass changes nothing.
   pub latest-keep : (e : ℕ) (table : List ℕ) → LatestEvents test key e table → test e ≡ false
@@ -67,7 +71,8 @@ module _ (relation : ℕ → ℕ) where
 
 module _ (σ : Trace) (e : ℕ) (table : List ℕ) where
   -- The latest write of a read's variable is its writer.
-  pub latest-writer : LatestEvents (isWrite σ) (object σ) e table → isRead σ e ≡ true → object σ e < length table
+  pub latest-writer : LatestEvents (isWrite σ) (object σ) e table → isRead σ e ≡ true → object σ e < length
+      table
       → getD table (object σ e) 0 ≡ writer σ e
   unfolding writer sameObject
   latest-writer z r h = rw r (z .at (object σ e) h)

@@ -74,7 +74,8 @@ module _ (σ : Trace) where
   -- An acquire sets its lock's bit.
   pub locksets-acquire : (e : ℕ) (table : List ℕ) → Locksets σ e table → task σ e < tasks
       → isAcquire σ e ≡ true → object σ e < locks
-      → Locksets σ (suc e) (set table (task σ e) (bitOr (getD table (task σ e) 0) (1 * 2 ^ object σ e % 2 ^ 64)))
+      → Locksets σ (suc e) (set table (task σ e) (bitOr (getD table (task σ e) 0)
+      (1 * 2 ^ object σ e % 2 ^ 64)))
   locksets-acquire e table z b a o =
       locksets-set e (bitOr m (1 * 2 ^ l % 2 ^ 64)) table z b
       (rw (shift-one 64 l o) (or-lt 64 m (2 ^ l) (z .fits (task σ e) b) (pow-lt o))) bits
@@ -89,14 +90,21 @@ module _ (σ : Trace) where
       bits j k =
           rw (hasBit-shift 64 m l j o, z .at (task σ e) j b k)
           (⊎-elim
-          (λ (q : l ≡ j). rw (eq-eqb l j q, or-true, holds-acquire σ e (task σ e) j a q, eq-eqb (task σ e) (task σ e) refl))
+          (λ (q : l ≡ j). rw (
+            eq-eqb l j q,
+            or-true,
+            holds-acquire σ e (task σ e) j a q,
+            eq-eqb (task σ e)
+                (task σ e) refl,
+          ))
           (λ (d : l ≢ j). rw (ne-eqb l j d, or-false, holds-apart σ e (task σ e) j d)) (equal? l j))
 
   -- A release clears its lock's bit, which is set.
   pub locksets-release : (e : ℕ) (table : List ℕ) → Locksets σ e table → task σ e < tasks
       → isAcquire σ e ≡ false → isRelease σ e ≡ true → object σ e < locks
       → holds σ e (task σ e) (object σ e) ≡ true
-      → Locksets σ (suc e) (set table (task σ e) (bitXor (getD table (task σ e) 0) (1 * 2 ^ object σ e % 2 ^ 64)))
+      → Locksets σ (suc e) (set table (task σ e) (bitXor (getD table (task σ e) 0)
+      (1 * 2 ^ object σ e % 2 ^ 64)))
   locksets-release e table z b a r o h =
       locksets-set e (bitXor m (1 * 2 ^ l % 2 ^ 64)) table z b
       (rw (shift-one 64 l o) (xor-lt 64 m (2 ^ l) (z .fits (task σ e) b) (pow-lt o))) bits
@@ -111,7 +119,14 @@ module _ (σ : Trace) where
       bits j k =
           rw (shift-one 64 l o, hasBit-xor m (2 ^ l) j, hasBit-bit l j, z .at (task σ e) j b k)
           (⊎-elim
-          (λ (q : l ≡ j). rw (eq-eqb l j q, ← q, h, holds-release σ e (task σ e) l a r refl, eq-eqb (task σ e) (task σ e) refl))
+          (λ (q : l ≡ j). rw (
+            eq-eqb l j q,
+            ← q,
+            h,
+            holds-release σ e (task σ e) l a r refl,
+            eq-eqb
+                (task σ e) (task σ e) refl,
+          ))
           (λ (d : l ≢ j). rw (ne-eqb l j d, holds-apart σ e (task σ e) j d)) (equal? l j))
 
   -- A read or a write leaves them.

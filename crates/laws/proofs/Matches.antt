@@ -1,29 +1,30 @@
 -- How one event of a well-formed trace changes the table of matches; what that holds is in specs/Walked.
 -- The acquire of a release is the latest acquire of its lock, by whatever task. Assumes nothing.
 use Prim.Native.Nat.{ℕ, suc, _+_, _-_, _≤_, _<_}
-use mathlib.Core.Path.{_≡_, refl, sym, ap, _∙_}
+use mathlib.Core.Path.{_≡_, sym, ap, _∙_}
 use mathlib.Core.Logic.{⊎-elim, _≢_}
-use mathlib.Core.Bool.{Bool, true, false, cond, _&&_, _||_}
+use mathlib.Core.Bool.{Bool, false, cond, _&&_}
 use mathlib.Core.List.{List}
 use native.Mathlib.Omega.{arith}
 use native.Mathlib.Nat.{suc-sub-suc}
-use lib.Dec.{T, T-not, eqb, eqb→eq, eqb-refl}
+use lib.Dec.{T, eqb, eqb→eq}
 use lib.ListN.{length, getD, set, length-set}
 use lib.Seq.{getD-set-same, getD-set-other}
-use borrow.Author.Tests.{eq-eqb, ne-eqb, eqb-true, eqb-false}
+use borrow.Author.Tests.{ne-eqb, eqb-true}
 use Rattle.model.specs.Lists.{lastBefore, firstFrom}
 use Rattle.model.specs.Trace.{Trace, task, object, isAcquire, isRelease, sameTask, sameObject}
 use Rattle.model.specs.Relations.{releaseOf, acquireOf, matching, operates, holds}
 use Rattle.model.specs.Closed.{Again}
-use Rattle.laws.specs.Walked.{LatestEvents, matchingBefore, Matches}
-use Rattle.laws.proofs.Tests.{parts, and-i, or-l, or-r, decided, is-true, is-false, equal?, eq→eqb}
+use Rattle.laws.specs.Walked.{matchingBefore, Matches}
+use Rattle.laws.proofs.Tests.{parts, and-i, or-r, decided, is-true, equal?, eq→eqb}
 use Rattle.laws.proofs.Searches.{Latest, lastBefore-latest, latest-same, Earliest, firstFrom-earliest}
 use Rattle.laws.proofs.Searches.{firstFrom-more}
 use Rattle.laws.proofs.Trace.{sameTask-iff, sameObject-iff, acquire-event}
 use Rattle.laws.proofs.Relations.{releases}
 use Rattle.laws.proofs.WellFormed.{WellFormed, release-held, release-between}
 
-module _ (σ : Trace) (ok : WellFormed σ) (e : ℕ) (inside : (1 ≤ e) × (e ≤ length σ)) (t : T (isRelease σ e)) where
+module _ (σ : Trace) (ok : WellFormed σ) (e : ℕ) (inside : (1 ≤ e) × (e ≤ length σ))
+    (t : T (isRelease σ e)) where
   -- ---- the latest acquire of a release's lock
 
   -- The acquires of the event's lock.
@@ -74,7 +75,12 @@ module _ (σ : Trace) (ok : WellFormed σ) (e : ℕ) (inside : (1 ≤ e) × (e �
   opened-own : opened ≡ own
   opened-own =
       ⊎-elim (λ q. q)
-      (λ d. absurd (between (omega (arith, opened-latest .latest own (own-latest .below own-nonzero) passes, d))))
+      (λ d. absurd (between (omega (
+        arith,
+        opened-latest .latest own (own-latest .below own-nonzero)
+            passes,
+        d,
+      ))))
       (equal? opened own)
     where
       passes : T (acquires own)
@@ -115,7 +121,8 @@ module _ (σ : Trace) (ok : WellFormed σ) (e : ℕ) (inside : (1 ≤ e) × (e �
           → T (isAcquire σ (acquireOf σ e) && sameObject σ e (acquireOf σ e) && sameTask σ e (acquireOf σ e))
           → T (acquires (acquireOf σ e))
       back d p =
-          let same : object σ e ≡ object σ (acquireOf σ e) = sameObject-iff σ e (acquireOf σ e) .0 (search parts) in
+          let same : object σ e ≡ object σ (acquireOf σ e) = sameObject-iff σ e (acquireOf σ e) .0
+          (search parts) in
           search (parts, and-i, eq→eqb (object σ e) (object σ (acquireOf σ e)) same)
 
   -- The release releases it,
@@ -128,14 +135,16 @@ module _ (σ : Trace) (ok : WellFormed σ) (e : ℕ) (inside : (1 ≤ e) × (e �
   pub opened-unreleased : firstFrom (suc opened) (e - suc opened) (releases σ opened) ≡ 0
   opened-unreleased = rw opened-own unreleased
     where
-      found : Earliest (suc own) (e - suc own) (releases σ own) (firstFrom (suc own) (e - suc own) (releases σ own))
+      found : Earliest (suc own) (e - suc own) (releases σ own)
+          (firstFrom (suc own) (e - suc own) (releases σ own))
       found = firstFrom-earliest (suc own) (e - suc own) (releases σ own)
 
       unreleased : firstFrom (suc own) (e - suc own) (releases σ own) ≡ 0
       unreleased =
           let r = firstFrom (suc own) (e - suc own) (releases σ own) in
           ⊎-elim (λ z. z)
-          (λ d. absurd (no-release r (omega (arith, found .from d)) (omega (arith, found .below d, own-latest .below own-nonzero))
+          (λ d. absurd (no-release r (omega (arith, found .from d))
+          (omega (arith, found .below d, own-latest .below own-nonzero))
           (found .passes d)))
           (equal? r 0)
 
@@ -147,7 +156,8 @@ module _ (σ : Trace) (ok : WellFormed σ) (e : ℕ) (inside : (1 ≤ e) × (e �
       let passes : T (acquires f) = and-i (isAcquire σ f) _ a (eq→eqb _ _ (sym same)) in
       let below : f < opened = omega (arith, opened-latest .latest f h passes) in
       let (nonzero, before, acquire) = opened-acquire in
-      let shared : object σ e ≡ object σ opened = eqb→eq _ _ (search (parts, opened-latest .passes nonzero)) in
+      let shared : object σ e ≡ object σ opened = eqb→eq _ _
+      (search (parts, opened-latest .passes nonzero)) in
       let again : Again σ f opened = record {
         later = below;
         first = a;
@@ -239,7 +249,8 @@ module _ (σ : Trace) where
           own : f ≡ a → getD (set table a e) f 0 ≡ matchingBefore σ (suc e) f
           own r =
               let small : a < length table = omega (arith, at-a) in
-              let none : firstFrom (suc a) (e - suc a) (releases σ a) ≡ 0 = rw q (opened-unreleased σ ok e i t) in
+              let none : firstFrom (suc a) (e - suc a) (releases σ a) ≡ 0 = rw q
+              (opened-unreleased σ ok e i t) in
               let gives : T (releases σ a e) = rw q (opened-released σ ok e i t) in
               rw (
                 r,

@@ -1,7 +1,7 @@
 -- Laws of a part that runs to the end, `&s[a..]` and `&mut s[a..]`, and of `sets l i vs`, the list l with vs
 -- stored from i on. Assumes nothing.
 use Prim.Native.Nat.{ℕ, suc, _+_, _-_}
-use mathlib.Core.Path.{_≡_, refl, sym, ap, ap₂, _∙_}
+use mathlib.Core.Path.{_≡_, sym, ap, ap₂, _∙_}
 use mathlib.Core.List.{List, [], _∷_, _++_, append-nil}
 use native.Mathlib.Omega.{arith}
 use native.Mathlib.Nat.{add-zero, add-suc, le-of-eq, le-add-right}

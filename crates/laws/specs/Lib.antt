@@ -1,4 +1,5 @@
--- Definitions for the contracts of inner functions: what the tables of a walk over a trace hold, and the shapes
+-- Definitions for the contracts of inner functions: what the tables of a walk over a trace hold, and the
+-- shapes
 -- of answers. No public contract names one.
 pub mod Walked
 pub mod Answered

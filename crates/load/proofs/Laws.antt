@@ -1,29 +1,29 @@
--- The holder of a lock after one event more of accepted records, and the count of the events after which there
+-- The holder of a lock after one event more of accepted records, and the count of the events after which
+-- there
 -- is one. Assumes nothing.
-use Prim.Native.Nat.{ℕ, zero, suc, _+_, _-_, _*_, _/_, _≤_, _<_}
-use mathlib.Core.Path.{_≡_, refl, sym, ap, _∙_}
-use mathlib.Core.Logic.{⊎-elim, _≢_}
-use mathlib.Core.Bool.{Bool, true, false, cond, not}
-use mathlib.Core.List.{List, _++_, _∷_, []}
+use Prim.Native.Nat.{ℕ, zero, suc, _+_, _-_, _*_, _≤_, _<_}
+use mathlib.Core.Path.{_≡_, refl, sym, _∙_}
+use mathlib.Core.Logic.{_≢_}
+use mathlib.Core.Bool.{Bool, true, cond, not}
+use mathlib.Core.List.{List, _∷_, []}
 use native.Mathlib.Numerals.{add-one}
 use native.Mathlib.Omega.{arith}
-use lib.Dec.{T, T-not, eqb, eqb→eq, eqb-refl, ltb}
+use lib.Dec.{T, T-not, eqb→eq, eqb-refl, ltb}
 use lib.ListN.{length, length-append}
-use borrow.Author.Tests.{eq-eqb, ne-eqb, eqb-true, lt-ltb, le-ltb}
+use borrow.Author.Tests.{eq-eqb, ne-eqb, lt-ltb, le-ltb}
 use Rattle.model.specs.Lists.{filter, from}
 use Rattle.model.specs.Trace.{Trace, tasks, at, task, object, isAcquire, isRelease}
 use Rattle.model.specs.Recording.{decodeAll}
 use Rattle.model.specs.Relations.{holds}
-use Rattle.model.specs.WellFormed.{isFree}
 use Rattle.model.specs.Calls.Check.{checkEvents}
 use Rattle.model.specs.Calls.Load.{isHeldAfter}
 use Rattle.laws.specs.Walked.{Holder}
-use Rattle.laws.proofs.Tests.{decided, is-true}
+use Rattle.laws.proofs.Tests.{decided}
 use Rattle.laws.proofs.Lists.{from-split}
 use Rattle.laws.proofs.Filters.{filter-append}
 use Rattle.laws.proofs.Trace.{decodeAll-length}
-use Rattle.laws.proofs.Holders.{holds-apart, holds-access, holder-start, holder-keep, holder-acquire}
-use Rattle.laws.proofs.Holders.{holder-release, holder-any, holder-free}
+use Rattle.laws.proofs.Holders.{holds-apart, holds-access, holder-keep, holder-acquire}
+use Rattle.laws.proofs.Holders.{holder-release, holder-any}
 use Rattle.laws.proofs.Faults.{isAcquire-op, isRelease-op}
 use Rattle.laws.proofs.WellFormed.{WellFormed, acquire-free, release-held}
 use Rattle.laws.proofs.Questions.{events-sound}
@@ -31,7 +31,8 @@ use Rattle.laws.proofs.Questions.{events-sound}
 -- ---- one event
 
 -- A lock that no task holds has no holder.
-holder-none : (σ : Trace) (e l h : ℕ) → Holder σ e l h → ((t : ℕ) → t < tasks → T (not (holds σ e t l))) → h ≡ 0
+holder-none : (σ : Trace) (e l h : ℕ) → Holder σ e l h → ((t : ℕ) → t < tasks → T (not (holds σ e t l))) →
+    h ≡ 0
 holder-none σ e l zero z f = refl
 holder-none σ e l (suc t) z f =
     absurd (T-not (holds σ e t l) (f t (omega (arith, z .bound)))
@@ -76,10 +77,12 @@ module _ (b : List ℕ) (accepted : checkEvents (decodeAll b) .refusal ≡ 0) (e
           (rw (sym q ∙ r) at (acquire-free (decodeAll b) sound e (rw acquire tt)))
 
   -- A release of the lock leaves none.
-  pub release-holder : 2 ≤ op → op ≢ 2 → (o : ℕ) → o ≡ object (decodeAll b) e → o ≡ l → Holder (decodeAll b) (e + 1) l 0
+  pub release-holder : 2 ≤ op → op ≢ 2 → (o : ℕ) → o ≡ object (decodeAll b) e → o ≡ l → Holder
+      (decodeAll b) (e + 1) l 0
   release-holder a d o q r =
       rw (add-one e)
-      (holder-release (decodeAll b) e l (isAcquire-op (decodeAll b) e (is-op .1) ∙ ne-eqb op 2 d) release (sym q ∙ r)
+      (holder-release (decodeAll b) e l (isAcquire-op (decodeAll b) e (is-op .1) ∙ ne-eqb op 2 d) release
+      (sym q ∙ r)
       (rw own at z))
     where
       release : isRelease (decodeAll b) e ≡ true

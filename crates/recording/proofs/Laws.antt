@@ -1,16 +1,15 @@
 -- How the check goes on after one event, by its operation and what the tables say. Assumes nothing.
-use Prim.Native.Nat.{ℕ, suc, _+_, _-_, _*_, _/_, _≤_, _<_}
-use mathlib.Core.Path.{_≡_, refl, sym, ap, _∙_, subst}
+use Prim.Native.Nat.{ℕ, suc, _+_, _-_, _/_, _≤_, _<_}
+use mathlib.Core.Path.{_≡_, refl, sym, _∙_}
 use mathlib.Core.Logic.{⊎-elim, _≢_}
-use mathlib.Core.Bool.{true, false, cond}
+use mathlib.Core.Bool.{false}
 use mathlib.Core.List.{List}
 use native.Mathlib.Numerals.{add-one}
 use native.Mathlib.Omega.{arith}
 use lib.Dec.{T, eqb}
 use lib.ListN.{length, getD, set, replicate, length-set, length-replicate}
 use borrow.Author.Tests.{eq-eqb, ne-eqb}
-use Rattle.model.specs.declared.Outcome.{Outcome}
-use Rattle.model.specs.Trace.{Trace, tasks, locks, at, task, object, isRead, isWrite, isAcquire, isRelease}
+use Rattle.model.specs.Trace.{Trace, tasks, locks, at, task, object, isWrite}
 use Rattle.model.specs.Relations.{holds, writer}
 use Rattle.model.specs.Recording.{decodeAll}
 use Rattle.model.specs.WellFormed.{isFree, fault}
@@ -97,7 +96,8 @@ module _ {σ : Trace} {e op t l : ℕ} {holders writes : List ℕ} (u : Unpacked
         sym (fault-write σ e is-op a),
         λ _. next holders (set writes (object σ e) e) (fault-write σ e is-op a) keeps
             (length-set writes (object σ e) e ∙ z .long)
-            (latest-set (isWrite σ) (object σ) e writes (z .write) write (omega (arith, z .long, u .object-is))),
+            (latest-set (isWrite σ) (object σ) e writes (z .write) write
+            (omega (arith, z .long, u .object-is))),
       )
     where
       write : T (isWrite σ e)
@@ -140,7 +140,11 @@ module _ {σ : Trace} {e op t l : ℕ} {holders writes : List ℕ} (u : Unpacked
       none : fault σ e ≡ 0
       none =
           fault-acquire σ e is-op a (omega arith)
-          ∙ rw (holder-free σ e (getD holders (object σ e) 0) at-lock, eq-eqb (getD holders (object σ e) 0) 0 free)
+          ∙ rw (
+            holder-free σ e (getD holders (object σ e) 0) at-lock,
+            eq-eqb (getD holders (object σ e) 0)
+                0 free,
+          )
 
       holding : Holders σ (suc e) (set holders (object σ e) (suc (task σ e)))
       holding =

@@ -1,18 +1,18 @@
 -- What noting one event does to the tables, with its operation, task and object as they were unpacked.
 -- Assumes nothing.
 use Prim.Native.Nat.{ℕ, suc, _+_, _*_, _/_, _%_, _^_, _≤_, _<_}
-use mathlib.Core.Path.{_≡_, refl, sym, ap, _∙_}
+use mathlib.Core.Path.{_≡_, refl, _∙_}
 use mathlib.Core.Logic.{⊎-elim, _≢_}
-use mathlib.Core.Bool.{Bool, true, false, cond, _||_}
+use mathlib.Core.Bool.{true, false, _||_}
 use mathlib.Core.List.{List}
 use native.Mathlib.Numerals.{add-one}
 use native.Mathlib.Omega.{arith}
 use lib.Bits.{bitOr, bitXor}
 use lib.Count.{ones, ones-le}
-use lib.Dec.{T, eqb}
+use lib.Dec.{T}
 use lib.ListN.{length, getD, set, replicate, length-replicate}
 use borrow.Author.Tests.{eq-eqb, ne-eqb}
-use Rattle.model.specs.Trace.{Trace, tasks, locks, at, task, object, isRead, isWrite, isAcquire, isRelease}
+use Rattle.model.specs.Trace.{Trace, tasks, locks, at, task, object, isWrite, isAcquire, isRelease}
 use Rattle.model.specs.Recording.{decodeAll}
 use Rattle.model.specs.Relations.{predecessor, writer, matching, held}
 use Rattle.model.specs.Calls.Check.{checkEvents}
@@ -23,7 +23,13 @@ use Rattle.laws.proofs.Tests.{or-l, or-r, is-true, equal?}
 use Rattle.laws.proofs.Trace.{decodeAll-length}
 use Rattle.laws.proofs.LatestEvents.{latest-set, latest-keep, latest-writer, latest-predecessor, filled-set}
 use Rattle.laws.proofs.LatestEvents.{latest-start, filled-start}
-use Rattle.laws.proofs.Locksets.{locksets-start, locksets-held, locksets-acquire, locksets-release, locksets-access}
+use Rattle.laws.proofs.Locksets.{
+  locksets-start,
+  locksets-held,
+  locksets-acquire,
+  locksets-release,
+  locksets-access,
+}
 use Rattle.laws.proofs.Faults.{isRead-op, isWrite-op, isAcquire-op, isRelease-op}
 use Rattle.laws.proofs.Relations.{predecessor-below, writer-below, matching-le, held-lt}
 use Rattle.laws.proofs.WellFormed.{WellFormed, lock-lt, release-held}
@@ -33,7 +39,8 @@ use Rattle.relations.specs.Tables.{operation, Tables, Long, Noted}
 
 -- ---- the predecessor
 
-module _ (σ : Trace) (e t : ℕ) (is-task : (t < tasks) × (t ≡ task σ e)) (latest : List ℕ) (long : length latest ≡ tasks)
+module _ (σ : Trace) (e t : ℕ) (is-task : (t < tasks) × (t ≡ task σ e)) (latest : List ℕ)
+    (long : length latest ≡ tasks)
     (z : LatestEvents (λ f. true) (task σ) e latest) where
   -- What is noted as the predecessor of event e.
   pub predecessor-noted : (table : List ℕ) → Filled (predecessor σ) e table → e < length table
@@ -48,7 +55,8 @@ module _ (σ : Trace) (e t : ℕ) (is-task : (t < tasks) × (t ≡ task σ e)) (
 
 -- ---- the writer
 
-module _ (σ : Trace) (e op v : ℕ) (is-op : (op < 4) × (op ≡ at σ e .op)) (is-object : (v < 1024) × (v ≡ object σ e))
+module _ (σ : Trace) (e op v : ℕ) (is-op : (op < 4) × (op ≡ at σ e .op))
+    (is-object : (v < 1024) × (v ≡ object σ e))
     (writes : List ℕ) (long : length writes ≡ 1024) (z : LatestEvents (isWrite σ) (object σ) e writes) where
   -- What is noted as the writer of a read.
   pub writer-noted : op ≡ 0 → (table : List ℕ) → Filled (writer σ) e table → e < length table
@@ -69,12 +77,14 @@ module _ (σ : Trace) (e op v : ℕ) (is-op : (op < 4) × (op ≡ at σ e .op)) 
   pub write-noted : op ≡ 1 → LatestEvents (isWrite σ) (object σ) (e + 1) (set writes v e)
   write-noted a =
       rw (add-one e, is-object .1)
-      (latest-set (isWrite σ) (object σ) e writes z (rw (isWrite-op σ e (is-op .1), eq-eqb op 1 a) tt) (omega arith))
+      (latest-set (isWrite σ) (object σ) e writes z (rw (isWrite-op σ e (is-op .1), eq-eqb op 1 a) tt)
+      (omega arith))
 
   -- Another event changes no latest write.
   pub no-write-noted : op ≢ 1 → LatestEvents (isWrite σ) (object σ) (e + 1) writes
   no-write-noted d =
-      rw (add-one e) (latest-keep (isWrite σ) (object σ) e writes z (isWrite-op σ e (is-op .1) ∙ ne-eqb op 1 d))
+      rw (add-one e) (latest-keep (isWrite σ) (object σ) e writes z
+      (isWrite-op σ e (is-op .1) ∙ ne-eqb op 1 d))
 
 -- ---- locks
 
@@ -134,7 +144,8 @@ module _ (b : List ℕ) (accepted : checkEvents (decodeAll b) .refusal ≡ 0) (e
     release-noted a l is-object =
         rw (add-one e, is-task .1, is-object .1)
         (locksets-release (decodeAll b) e locksets z (omega arith) (no-acquire (omega arith)) (release a)
-        (lock-bound (omega arith)) (is-true _ (release-held (decodeAll b) sound e (event .0) (event .1) (rw (release a) tt))))
+        (lock-bound (omega arith)) (is-true _ (release-held (decodeAll b) sound e (event .0) (event .1)
+        (rw (release a) tt))))
 
     -- and other events change nothing.
     pub access-noted : op ≢ 2 → op ≢ 3 → Locksets (decodeAll b) (e + 1) locksets
@@ -210,7 +221,8 @@ noted-start σ operations tasks objects holding predecessors writers matches lon
 -- After the last event each table has its relation for every event.
 pub noted-end : (b : List ℕ) (e : ℕ)
     {operations tasks objects holding predecessors writers matches latest writes locksets acquires : List ℕ}
-    → Noted (decodeAll b) e operations tasks objects holding predecessors writers matches latest writes locksets
+    → Noted (decodeAll b) e operations tasks objects holding predecessors writers matches latest writes
+    locksets
     acquires
     → e ≤ length b / 2 + 1 → length b / 2 < e
     → Tables (decodeAll b) operations tasks objects holding predecessors writers matches

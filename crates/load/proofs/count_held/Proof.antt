@@ -1,4 +1,5 @@
--- `load::count_held` meets its contract: before each event the holder is the lock's, and the events passed are
+-- `load::count_held` meets its contract: before each event the holder is the lock's, and the events passed
+-- are
 -- counted. Assumes nothing.
 use Prim.Native.Nat.{ℕ, _+_, _-_, _/_, _≤_, _<_}
 use mathlib.Core.Path.{_≡_, ap, _∙_}
@@ -26,8 +27,14 @@ abbrev μ-loop : tie.MeasureT-loop
 
 loop-holds : tie.Need-loop-holds Inv-loop μ-loop
 loop-holds c =
-    let b = c .before .args .records .now in
-    (search needs, search needs, search needs, holder-start (decodeAll b) (c .before .args .lock), search needs)
+    let b = c .before .args .records .now in (
+      search needs,
+      search needs,
+      search needs,
+      holder-start (decodeAll b) (c .before .args .lock),
+      search
+          needs,
+    )
 
 holder-after-requires : tie.Need-holder-after-requires Inv-loop μ-loop
 holder-after-requires c κs = search needs
@@ -64,7 +71,8 @@ returns c =
     let last : k .e - 1 ≡ length (decodeAll (s .args .records .now)) =
     omega (arith, decodeAll-length (s .args .records .now)) in (
       omega arith,
-      k .inv .4 ∙ ap (λ (n : ℕ). length (filter (isHeldAfter (decodeAll (s .args .records .now)) (s .args .lock)) (from 1 n))) last,
+      k .inv .4 ∙ ap (λ (n : ℕ). length (filter (isHeldAfter (decodeAll (s .args .records .now))
+          (s .args .lock)) (from 1 n))) last,
     )
 
 pub count-held-spec : {M : Type 1} → statement M

@@ -11,7 +11,8 @@ operation-requires c κs = search needs
 returns : tie.Need-returns
 returns c =
     let s = c .before .before .before in
-    access-holder (s .args .records .now) (s .pre .2) (s .args .e) (s .pre .0, s .pre .1) _ (c .before .operation .ensures)
+    access-holder (s .args .records .now) (s .pre .2) (s .args .e) (s .pre .0, s .pre .1) _
+    (c .before .operation .ensures)
     (s .args .lock) (s .args .holder) (s .pre .3) (c .if1 .taken)
 
 object-requires : tie.Need-object-requires
@@ -23,7 +24,8 @@ cast-if2 c = search needs
 returns-2 : tie.Need-returns-2
 returns-2 c =
     let s = c .before .before .before .before .before in
-    other-holder (s .args .records .now) (s .pre .2) (s .args .e) (s .pre .0, s .pre .1) _ (c .before .before .before .operation .ensures)
+    other-holder (s .args .records .now) (s .pre .2) (s .args .e) (s .pre .0, s .pre .1) _
+    (c .before .before .before .operation .ensures)
     (s .args .lock) (s .args .holder) (s .pre .3) _ (c .before .object .ensures .1) (c .if2 .taken)
 
 task-requires : tie.Need-task-requires
@@ -35,14 +37,16 @@ add-result c = search needs
 returns-3 : tie.Need-returns-3
 returns-3 c =
     let s = c .before .before .before .before .before .before .before in
-    acquire-holder (s .args .records .now) (s .pre .2) (s .args .e) (s .pre .0, s .pre .1) _ (c .before .before .before .before .before .operation .ensures)
+    acquire-holder (s .args .records .now) (s .pre .2) (s .args .e) (s .pre .0, s .pre .1) _
+    (c .before .before .before .before .before .operation .ensures)
     (s .args .lock) (s .args .holder) (s .pre .3) (c .before .if3 .taken) _
     (c .before .before .before .object .ensures .1) (c .before .before .if2 .left) _ (c .task .ensures)
 
 returns-4 : tie.Need-returns-4
 returns-4 c =
     let s = c .before .before .before .before .before .before in
-    release-holder (s .args .records .now) (s .pre .2) (s .args .e) (s .pre .0, s .pre .1) _ (c .before .before .before .before .operation .ensures)
+    release-holder (s .args .records .now) (s .pre .2) (s .args .e) (s .pre .0, s .pre .1) _
+    (c .before .before .before .before .operation .ensures)
     (s .args .lock) (s .args .holder) (s .pre .3) (search needs) (c .if3 .left) _
     (c .before .before .object .ensures .1) (c .before .if2 .left)
 

@@ -1,17 +1,15 @@
 -- `load::load` meets its contract: questions 1 to 7, then 14, then the count of events. Assumes nothing.
-use Prim.Native.Nat.{ℕ}
-use mathlib.Core.Path.{_≡_, sym, ap, ap₂, _∙_}
+use mathlib.Core.Path.{_≡_, sym, ap, _∙_}
 use native.Mathlib.Omega.{arith}
 use borrow.Author.Needs.{needs}
 use borrow.Author.Tests.{lt-ltb, le-ltb}
 use lib.ListN.{length}
 use Rattle.model.specs.declared.Outcome.{Outcome}
-use Rattle.model.specs.declared.Load.{Load}
 use Rattle.model.specs.Lists.{filter, from}
-use Rattle.model.specs.Trace.{Trace, locks}
-use Rattle.model.specs.Recording.{eventCount, trace}
+use Rattle.model.specs.Trace.{locks}
+use Rattle.model.specs.Recording.{trace}
 use Rattle.model.specs.Calls.Check.{check}
-use Rattle.model.specs.Calls.Load.{isHeldAfter, percent}
+use Rattle.model.specs.Calls.Load.{isHeldAfter}
 use Rattle.laws.specs.Answered.{refusedLoad}
 use Rattle.laws.proofs.Questions.{check-bytes, check-count, part-trace, part-length, part-accepted}
 use Rattle.laws.proofs.Answers.{load-unchecked, load-unknown, load-answer}
@@ -39,7 +37,8 @@ returns-2 c =
     (le-ltb (s .args .lock) locks (c .if2 .taken)))
 
 event-count-requires : tie.Need-event-count-requires
-event-count-requires c κs = check-bytes (c .before .before .before .before .before .args .recording .now) (accepted (c .before)) .0
+event-count-requires c κs = check-bytes (c .before .before .before .before .before .args .recording .now)
+    (accepted (c .before)) .0
 
 sub-count-held : tie.Need-sub-count-held
 sub-count-held c =
@@ -72,10 +71,12 @@ returns-3 c =
     let ok = accepted (c .before .before .before .before .before) in
     let n : c .before .before .before .event-count .result ≡ length (trace b) =
     c .before .before .before .event-count .ensures .1 ∙ sym (check-count b ok) in
-    let h : c .before .count-held .result ≡ length (filter (isHeldAfter (trace b) (s .args .lock)) (from 1 (length (trace b)))) =
+    let h : c .before .count-held .result ≡ length (filter (isHeldAfter (trace b) (s .args .lock))
+    (from 1 (length (trace b)))) =
     rw (part-trace b) at (c .before .count-held .ensures .1) in
     rw (c .percentage .ensures, n, h)
-    (sym (load-answer b (s .args .lock) ok (lt-ltb (s .args .lock) locks (c .before .before .before .before .if2 .left))))
+    (sym (load-answer b (s .args .lock) ok (lt-ltb (s .args .lock) locks
+    (c .before .before .before .before .if2 .left))))
 
 pub load-spec : {M : Type 1} → statement M
 load-spec =

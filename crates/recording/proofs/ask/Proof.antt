@@ -39,10 +39,12 @@ slice-read-if2 : tie.Need-slice-read-if2
 slice-read-if2 c = search needs
 
 returns : tie.Need-returns
-returns c = read-refused (unpacked (c .before .before .before)) (c .before .before .if1 .taken) (c .if2 .taken)
+returns c = read-refused (unpacked (c .before .before .before)) (c .before .before .if1 .taken)
+    (c .if2 .taken)
 
 returns-2 : tie.Need-returns-2
-returns-2 c = read-passed (unpacked (c .before .before .before)) (c .before .before .if1 .taken) (c .if2 .left)
+returns-2 c = read-passed (unpacked (c .before .before .before)) (c .before .before .if1 .taken)
+    (c .if2 .left)
 
 cast-writes : tie.Need-cast-writes
 cast-writes c = search needs
@@ -60,14 +62,16 @@ returns-3 : tie.Need-returns-3
 returns-3 c = written (unpacked (c .before .before)) (c .if3 .taken)
 
 returns-4 : tie.Need-returns-4
-returns-4 c = no-lock (unpacked (c .before .before .before)) (c .before .before .if1 .left) (c .before .if3 .left)
+returns-4 c = no-lock (unpacked (c .before .before .before)) (c .before .before .if1 .left)
+    (c .before .if3 .left)
     (c .if4 .taken)
 
 slice-read-if6 : tie.Need-slice-read-if6
 slice-read-if6 c = search needs
 
 returns-5 : tie.Need-returns-5
-returns-5 c = acquire-refused (unpacked (c .before .before .before .before .before .before)) (c .before .before .if5 .taken)
+returns-5 c = acquire-refused (unpacked (c .before .before .before .before .before .before))
+    (c .before .before .if5 .taken)
     (c .before .before .before .if4 .left) (c .if6 .taken)
 
 add-holders : tie.Need-add-holders
@@ -80,7 +84,8 @@ same-length-2 : tie.Need-same-length-2
 same-length-2 c = search needs
 
 returns-6 : tie.Need-returns-6
-returns-6 c = acquire-passed (unpacked (c .before .before .before .before .before .before)) (c .before .before .if5 .taken)
+returns-6 c = acquire-passed (unpacked (c .before .before .before .before .before .before))
+    (c .before .before .if5 .taken)
     (c .before .before .before .if4 .left) (c .if6 .left)
 
 slice-read-if7 : tie.Need-slice-read-if7

@@ -1,11 +1,8 @@
 -- `recording::check` meets its contract: questions 1 to 3 in order, and then the part after the header.
 -- Assumes nothing.
-use mathlib.Core.Path.{sym, ap, _∙_}
-use mathlib.Core.List.{List}
-use Prim.Native.Nat.{ℕ}
+use mathlib.Core.Path.{sym, _∙_}
 use borrow.Author.Needs.{needs}
-use Rattle.model.specs.Recording.{decodeAll, format, trace}
-use Rattle.model.specs.Calls.Check.{checkEvents}
+use Rattle.model.specs.Recording.{format, trace}
 use Rattle.laws.proofs.Parts.{part-from}
 use Rattle.laws.proofs.Questions.{check-short, check-format, check-length, check-events}
 use Rattle.recording.proofs.check.Statement.{statement}

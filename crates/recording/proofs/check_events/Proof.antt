@@ -49,7 +49,8 @@ loop-again : tie.Need-loop-again Inv-loop μ-loop
 loop-again c = (search needs, search needs, c .before .before .before .ask .ensures .1 (c .if1 .left))
 
 returns-2 : tie.Need-returns-2 Inv-loop μ-loop
-returns-2 c = asked-passed (c .before .before .before .args .records .now) (c .before .loop .e) (c .before .loop .holders) (c .before .loop .writes) (c .before .loop .inv .2) (search needs)
+returns-2 c = asked-passed (c .before .before .before .args .records .now) (c .before .loop .e)
+    (c .before .loop .holders) (c .before .loop .writes) (c .before .loop .inv .2) (search needs)
 
 pub check-events-spec : {M : Type 1} → statement M
 check-events-spec =

@@ -19,7 +19,11 @@ shared-slice-read-result : tie.Need-shared-slice-read-result
 shared-slice-read-result c = search needs
 
 cast-result : tie.Need-cast-result
-cast-result c = omega (arith, and-le-r (getD (c .before .args .records .now) (2 * (c .before .args .e - 1)) 0) 3)
+cast-result c = omega (
+  arith,
+  and-le-r (getD (c .before .args .records .now) (2 * (c .before .args .e - 1))
+      0) 3,
+)
 
 add-result : tie.Need-add-result
 add-result c = search needs
@@ -37,7 +41,8 @@ returns c =
     let hi = getD (a .records .now) (2 * (a .e - 1)) 0 in
     let lo = getD (a .records .now) (2 * (a .e - 1) + 1) 0 in
     let small : lo < 256 = c .shared-slice-known2 .given (2 * (a .e - 1) + 1) .fits in
-    let is : bitOr (bitAnd hi 3 * 256 % 65536) lo ≡ hi % 4 * 256 + lo = low-unpacked 2 16 hi lo small (omega arith) in
+    let is : bitOr (bitAnd hi 3 * 256 % 65536) lo ≡ hi % 4 * 256 + lo = low-unpacked 2 16 hi lo small
+    (omega arith) in
     (omega arith, is ∙ record-object (a .records .now) (a .e) (p .0) (p .1))
 
 pub object-spec : {M : Type 1} → statement M

@@ -1,5 +1,5 @@
 -- `recording::task` meets its contract: the 4 bits below the operation are the task. Assumes nothing.
-use Prim.Native.Nat.{_+_, _*_, _-_, _/_}
+use Prim.Native.Nat.{_*_, _-_, _/_}
 use mathlib.Core.Path.{_∙_}
 use borrow.Author.Needs.{needs}
 use lib.Bits.{and-mask, mask-lt}

@@ -11,13 +11,17 @@ use Rattle.relations.proofs.fill_tables.Statement.{statement}
 use Rattle.relations.proofs.fill_tables.Tie as tie
 
 abbrev Inv-loop : tie.InvT-loop
-Inv-loop records operations₀ tasks₀ objects₀ holding₀ predecessors₀ writers₀ matches₀ latest₀ writes₀ locksets₀ acquires₀ e₀ operations tasks objects holding predecessors writers matches latest writes locksets acquires e =
+Inv-loop records operations₀ tasks₀ objects₀ holding₀ predecessors₀ writers₀ matches₀ latest₀ writes₀
+    locksets₀ acquires₀ e₀ operations tasks objects holding predecessors writers matches latest writes
+    locksets acquires e =
     (1 ≤ e) × (e ≤ length records / 2 + 1)
     × Noted (decodeAll records) e operations tasks objects holding predecessors writers matches latest writes
     locksets acquires
 
 abbrev μ-loop : tie.MeasureT-loop
-μ-loop records operations₀ tasks₀ objects₀ holding₀ predecessors₀ writers₀ matches₀ latest₀ writes₀ locksets₀ acquires₀ e₀ operations tasks objects holding predecessors writers matches latest writes locksets acquires e =
+μ-loop records operations₀ tasks₀ objects₀ holding₀ predecessors₀ writers₀ matches₀ latest₀ writes₀
+    locksets₀ acquires₀ e₀ operations tasks objects holding predecessors writers matches latest writes
+    locksets acquires e =
     length records / 2 + 1 - e
 
 loop-holds : tie.Need-loop-holds Inv-loop μ-loop
@@ -52,8 +56,14 @@ note-event-requires : tie.Need-note-event-requires Inv-loop μ-loop
 note-event-requires c κs =
     let k =
     c .before .before .before .before .before .before .before .before .before .before .before
-    .before in
-    (k .loop .inv .0, search needs, search needs, k .before .before .before .before .before .before .before .before .before .pre .1, k .loop .inv .2)
+    .before in (
+      k .loop .inv .0,
+      search needs,
+      search needs,
+      k .before .before .before .before .before .before .before
+          .before .before .pre .1,
+      k .loop .inv .2,
+    )
 
 add-e : tie.Need-add-e Inv-loop μ-loop
 add-e c =
@@ -61,7 +71,12 @@ add-e c =
     c .before .before .before .before .before .before .before .before .before .before .before
     .before .before .before .before .before .before .before .before .before .before .before .before
     .before .before .before .before .before .before .before .before in
-    omega (arith, k .loop .inv .1, k .before .before .before .before .before .before .before .before .before .pre .0)
+    omega (
+      arith,
+      k .loop .inv .1,
+      k .before .before .before .before .before .before .before .before
+          .before .pre .0,
+    )
 
 loop-less : tie.Need-loop-less Inv-loop μ-loop
 loop-less c = search needs

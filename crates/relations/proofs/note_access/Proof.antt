@@ -38,9 +38,11 @@ returns c =
     let op-is = c .before .before .before .operation .ensures in
     let object-is = c .before .before .object .ensures in (
       search needs,
-      writer-noted σ (s .args .e) _ _ op-is object-is (s .args .writes .now) (s .pre .4) (s .pre .6) (c .before .if1 .taken)
+      writer-noted σ (s .args .e) _ _ op-is object-is (s .args .writes .now) (s .pre .4) (s .pre .6)
+          (c .before .if1 .taken)
           (s .args .writers .now) (s .pre .5) (search needs),
-      no-write-noted σ (s .args .e) _ _ op-is object-is (s .args .writes .now) (s .pre .4) (s .pre .6) (omega (arith, c .before .if1 .taken)),
+      no-write-noted σ (s .args .e) _ _ op-is object-is (s .args .writes .now) (s .pre .4) (s .pre .6)
+          (omega (arith, c .before .if1 .taken)),
     )
 
 mul-writers-3 : tie.Need-mul-writers-3
@@ -71,9 +73,11 @@ returns-2 c =
     let op-is = c .before .before .before .operation .ensures in
     let object-is = c .before .before .object .ensures in (
       search needs,
-      no-writer-noted σ (s .args .e) _ _ op-is object-is (s .args .writes .now) (s .pre .4) (s .pre .6) (c .before .if1 .left)
+      no-writer-noted σ (s .args .e) _ _ op-is object-is (s .args .writes .now) (s .pre .4) (s .pre .6)
+          (c .before .if1 .left)
           (s .args .writers .now) (s .pre .5) (search needs),
-      write-noted σ (s .args .e) _ _ op-is object-is (s .args .writes .now) (s .pre .4) (s .pre .6) (c .if2 .taken),
+      write-noted σ (s .args .e) _ _ op-is object-is (s .args .writes .now) (s .pre .4) (s .pre .6)
+          (c .if2 .taken),
     )
 
 same-length-4 : tie.Need-same-length-4
@@ -86,9 +90,11 @@ returns-3 c =
     let op-is = c .before .before .before .operation .ensures in
     let object-is = c .before .before .object .ensures in (
       search needs,
-      no-writer-noted σ (s .args .e) _ _ op-is object-is (s .args .writes .now) (s .pre .4) (s .pre .6) (c .before .if1 .left)
+      no-writer-noted σ (s .args .e) _ _ op-is object-is (s .args .writes .now) (s .pre .4) (s .pre .6)
+          (c .before .if1 .left)
           (s .args .writers .now) (s .pre .5) (search needs),
-      no-write-noted σ (s .args .e) _ _ op-is object-is (s .args .writes .now) (s .pre .4) (s .pre .6) (c .if2 .left),
+      no-write-noted σ (s .args .e) _ _ op-is object-is (s .args .writes .now) (s .pre .4) (s .pre .6)
+          (c .if2 .left),
     )
 
 pub note-access-spec : {M : Type 1} → statement M

@@ -1,9 +1,7 @@
 -- `relations::note_held` meets its contract: the event's task holds what its mask says. Assumes nothing.
-use Prim.Native.Nat.{_≤_, _<_}
 use native.Mathlib.Omega.{arith}
 use borrow.Author.Needs.{needs}
-use Rattle.model.specs.Trace.{locks, object}
-use Rattle.model.specs.Recording.{decodeAll}
+use Rattle.model.specs.Trace.{object}
 use Rattle.relations.proofs.Laws.{lock-bound, held-noted, acquire-noted, release-noted, access-noted}
 use Rattle.relations.proofs.note_held.Statement.{statement}
 use Rattle.relations.proofs.note_held.Tie as tie
@@ -65,7 +63,8 @@ returns c =
     let is-task = c .before .before .before .task .ensures in (
       held-noted b (s .pre .4) (s .args .e) (s .pre .0, s .pre .1) _ is-op _ is-task (s .args .locksets .now)
           (s .pre .6) (s .args .holding .now) (s .pre .5) (search needs),
-      acquire-noted b (s .pre .4) (s .args .e) (s .pre .0, s .pre .1) _ is-op _ is-task (s .args .locksets .now) (s .pre .6)
+      acquire-noted b (s .pre .4) (s .args .e) (s .pre .0, s .pre .1) _ is-op _ is-task
+          (s .args .locksets .now) (s .pre .6)
           (c .before .if1 .taken)
           _ (c .object .ensures),
     )
@@ -82,7 +81,8 @@ shl-locksets-2 c =
     omega (
       arith,
       lock-bound (s .args .records .now) (s .pre .4) (s .args .e) (s .pre .0, s .pre .1) _
-          (c .before .before .before .before .before .operation .ensures) (omega (arith, c .before .if2 .taken)),
+          (c .before .before .before .before .before .operation .ensures)
+          (omega (arith, c .before .if2 .taken)),
       c .object2 .ensures,
     )
 
@@ -106,7 +106,8 @@ returns-2 c =
     let is-task = c .before .before .before .before .task .ensures in (
       held-noted b (s .pre .4) (s .args .e) (s .pre .0, s .pre .1) _ is-op _ is-task (s .args .locksets .now)
           (s .pre .6) (s .args .holding .now) (s .pre .5) (search needs),
-      release-noted b (s .pre .4) (s .args .e) (s .pre .0, s .pre .1) _ is-op _ is-task (s .args .locksets .now) (s .pre .6)
+      release-noted b (s .pre .4) (s .args .e) (s .pre .0, s .pre .1) _ is-op _ is-task
+          (s .args .locksets .now) (s .pre .6)
           (c .before .if2 .taken)
           _ (c .object2 .ensures),
     )
@@ -122,7 +123,8 @@ returns-3 c =
     let is-task = c .before .before .before .task .ensures in (
       held-noted b (s .pre .4) (s .args .e) (s .pre .0, s .pre .1) _ is-op _ is-task (s .args .locksets .now)
           (s .pre .6) (s .args .holding .now) (s .pre .5) (search needs),
-      access-noted b (s .pre .4) (s .args .e) (s .pre .0, s .pre .1) _ is-op _ is-task (s .args .locksets .now) (s .pre .6)
+      access-noted b (s .pre .4) (s .args .e) (s .pre .0, s .pre .1) _ is-op _ is-task
+          (s .args .locksets .now) (s .pre .6)
           (c .before .if1 .left)
           (c .if2 .left),
     )

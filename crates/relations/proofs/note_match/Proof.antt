@@ -36,7 +36,8 @@ cast-at c =
     omega (
       arith,
       opened-bound (s .args .records .now) (s .pre .5) (s .args .e) (s .pre .0, s .pre .1) _
-          (c .before .before .before .operation .ensures) _ (c .before .before .object .ensures) (s .args .acquires .now) (s .pre .4) (s .pre .7) (c .before .if1 .taken),
+          (c .before .before .before .operation .ensures) _ (c .before .before .object .ensures)
+          (s .args .acquires .now) (s .pre .4) (s .pre .7) (c .before .if1 .taken),
       s .pre .3,
     )
 
@@ -49,7 +50,8 @@ mul-matches c =
     omega (
       arith,
       opened-bound (s .args .records .now) (s .pre .5) (s .args .e) (s .pre .0, s .pre .1) _
-          (c .before .before .before .operation .ensures) _ (c .before .before .object .ensures) (s .args .acquires .now) (s .pre .4) (s .pre .7) (c .before .if1 .taken),
+          (c .before .before .before .operation .ensures) _ (c .before .before .object .ensures)
+          (s .args .acquires .now) (s .pre .4) (s .pre .7) (c .before .if1 .taken),
       s .pre .3,
     )
 
@@ -59,7 +61,8 @@ slice-write-matches c =
     omega (
       arith,
       opened-bound (s .args .records .now) (s .pre .5) (s .args .e) (s .pre .0, s .pre .1) _
-          (c .before .before .before .operation .ensures) _ (c .before .before .object .ensures) (s .args .acquires .now) (s .pre .4) (s .pre .7) (c .before .if1 .taken),
+          (c .before .before .before .operation .ensures) _ (c .before .before .object .ensures)
+          (s .args .acquires .now) (s .pre .4) (s .pre .7) (c .before .if1 .taken),
       s .pre .3,
     )
 
@@ -77,10 +80,12 @@ returns c =
     let s = c .before .before .before .before .before .before .before in (
       search needs,
       release-matched (s .args .records .now) (s .pre .5) (s .args .e) (s .pre .0, s .pre .1) _
-          (c .before .before .before .operation .ensures) _ (c .before .before .object .ensures) (s .args .acquires .now) (s .pre .4) (s .pre .7) (c .before .if1 .taken)
+          (c .before .before .before .operation .ensures) _ (c .before .before .object .ensures)
+          (s .args .acquires .now) (s .pre .4) (s .pre .7) (c .before .if1 .taken)
           (s .args .matches .now) (s .pre .6) (search needs),
       no-acquire-latest (s .args .records .now) (s .pre .5) (s .args .e) (s .pre .0, s .pre .1) _
-          (c .before .before .before .operation .ensures) _ (c .before .before .object .ensures) (s .args .acquires .now) (s .pre .4) (s .pre .7) (omega (arith, c .before .if1 .taken)),
+          (c .before .before .before .operation .ensures) _ (c .before .before .object .ensures)
+          (s .args .acquires .now) (s .pre .4) (s .pre .7) (omega (arith, c .before .if1 .taken)),
     )
 
 mul-matches-3 : tie.Need-mul-matches-3
@@ -117,10 +122,12 @@ returns-2 c =
     let s = c .before .before .before .before .before .before .before in (
       search needs,
       no-release-matched (s .args .records .now) (s .pre .5) (s .args .e) (s .pre .0, s .pre .1) _
-          (c .before .before .before .operation .ensures) _ (c .before .before .object .ensures) (s .args .acquires .now) (s .pre .4) (s .pre .7) (c .before .if1 .left)
+          (c .before .before .before .operation .ensures) _ (c .before .before .object .ensures)
+          (s .args .acquires .now) (s .pre .4) (s .pre .7) (c .before .if1 .left)
           (s .args .matches .now) (s .pre .6) (search needs),
       acquire-latest (s .args .records .now) (s .pre .5) (s .args .e) (s .pre .0, s .pre .1) _
-          (c .before .before .before .operation .ensures) _ (c .before .before .object .ensures) (s .args .acquires .now) (s .pre .4) (s .pre .7) (c .if2 .taken),
+          (c .before .before .before .operation .ensures) _ (c .before .before .object .ensures)
+          (s .args .acquires .now) (s .pre .4) (s .pre .7) (c .if2 .taken),
     )
 
 same-length-4 : tie.Need-same-length-4
@@ -131,10 +138,12 @@ returns-3 c =
     let s = c .before .before .before .before .before .before .before in (
       search needs,
       no-release-matched (s .args .records .now) (s .pre .5) (s .args .e) (s .pre .0, s .pre .1) _
-          (c .before .before .before .operation .ensures) _ (c .before .before .object .ensures) (s .args .acquires .now) (s .pre .4) (s .pre .7) (c .before .if1 .left)
+          (c .before .before .before .operation .ensures) _ (c .before .before .object .ensures)
+          (s .args .acquires .now) (s .pre .4) (s .pre .7) (c .before .if1 .left)
           (s .args .matches .now) (s .pre .6) (search needs),
       no-acquire-latest (s .args .records .now) (s .pre .5) (s .args .e) (s .pre .0, s .pre .1) _
-          (c .before .before .before .operation .ensures) _ (c .before .before .object .ensures) (s .args .acquires .now) (s .pre .4) (s .pre .7) (c .if2 .left),
+          (c .before .before .before .operation .ensures) _ (c .before .before .object .ensures)
+          (s .args .acquires .now) (s .pre .4) (s .pre .7) (c .if2 .left),
     )
 
 pub note-match-spec : {M : Type 1} → statement M

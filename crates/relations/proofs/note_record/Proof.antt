@@ -42,7 +42,8 @@ returns c =
     let s = c .before .before .before .before .before .before .before in
     let σ = decodeAll (s .args .records .now) in
     let e = s .args .e in (
-      filled-set (operation σ) e (c .before .before .operation .result) (s .args .operations .now) (s .pre .6) (search needs)
+      filled-set (operation σ) e (c .before .before .operation .result) (s .args .operations .now)
+          (s .pre .6) (search needs)
           (c .before .before .operation .ensures .1),
       filled-set (task σ) e (c .before .task .result) (s .args .tasks .now) (s .pre .7) (search needs)
           (c .before .task .ensures .1),

@@ -1,4 +1,5 @@
--- `relations::note_task` meets its contract: the latest event of the task was the predecessor. Assumes nothing.
+-- `relations::note_task` meets its contract: the latest event of the task was the predecessor. Assumes
+-- nothing.
 use borrow.Author.Needs.{needs}
 use Rattle.model.specs.Recording.{decodeAll}
 use Rattle.relations.proofs.Laws.{predecessor-noted, task-noted}

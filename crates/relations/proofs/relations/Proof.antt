@@ -1,14 +1,10 @@
 -- `relations::relations` meets its contract: questions 1 to 7, then 9, then the tables. Assumes nothing.
-use Prim.Native.Nat.{_≤_, _+_, _*_}
 use mathlib.Core.Path.{_≡_, sym, ap, _∙_}
-use mathlib.Core.Bool.{true, false}
 use native.Mathlib.Omega.{arith}
 use borrow.Author.Needs.{needs}
-use borrow.Author.Tests.{eqb-true}
-use lib.ListN.{length, length-drop}
 use Rattle.model.specs.declared.Outcome.{Outcome}
 use Rattle.model.specs.Trace.{Trace}
-use Rattle.model.specs.Recording.{eventCount, trace}
+use Rattle.model.specs.Recording.{trace}
 use Rattle.model.specs.Calls.Check.{check}
 use Rattle.laws.specs.Answered.{eventRelations}
 use Rattle.laws.proofs.Trace.{isEvent-true, isEvent-false}
@@ -31,7 +27,8 @@ returns : tie.Need-returns
 returns c =
     let s = c .before .before .before .before .before in
     let q = c .before .before .before .check .ensures in
-    c .refused .ensures ∙ rw q (sym (relations-unchecked (s .args .recording .now) (s .args .event) (rw q at (c .before .if1 .taken))))
+    c .refused .ensures ∙ rw q (sym (relations-unchecked (s .args .recording .now) (s .args .event)
+    (rw q at (c .before .if1 .taken))))
 
 refused-requires-2 : tie.Need-refused-requires-2
 refused-requires-2 c κs = search needs
@@ -41,10 +38,12 @@ returns-2 c =
     let s = c .before .before .before .before .before .before in
     c .refused2 .ensures
     ∙ sym (relations-unknown (s .args .recording .now) (s .args .event) (accepted (c .before .before))
-    (isEvent-false (trace (s .args .recording .now)) (s .args .event) (λ h. omega (arith, c .before .if2 .taken))))
+    (isEvent-false (trace (s .args .recording .now)) (s .args .event)
+    (λ h. omega (arith, c .before .if2 .taken))))
 
 event-count-requires : tie.Need-event-count-requires
-event-count-requires c κs = check-bytes (c .before .before .before .before .before .args .recording .now) (accepted (c .before)) .0
+event-count-requires c κs = check-bytes (c .before .before .before .before .before .args .recording .now)
+    (accepted (c .before)) .0
 
 refused-requires-3 : tie.Need-refused-requires-3
 refused-requires-3 c κs = search needs
@@ -64,11 +63,13 @@ returns-3 c =
     ))))
 
 sub-relations-of : tie.Need-sub-relations-of
-sub-relations-of c = check-bytes (c .before .before .before .before .before .before .before .args .recording .now) (accepted (c .before .before .before)) .0
+sub-relations-of c = check-bytes (c .before .before .before .before .before .before .before .args
+    .recording .now) (accepted (c .before .before .before)) .0
 
 part-relations-of-start : tie.Need-part-relations-of-start
 part-relations-of-start c =
-    let h = check-bytes (c .before .before .before .before .before .before .before .args .recording .now) (accepted (c .before .before .before)) .0 in
+    let h = check-bytes (c .before .before .before .before .before .before .before .args .recording .now)
+    (accepted (c .before .before .before)) .0 in
     search needs
 
 part-relations-of-end : tie.Need-part-relations-of-end
@@ -91,8 +92,15 @@ returns-4 c =
     let s = c .before .before .before .before .before .before .before .before .before in
     let b = s .args .recording .now in
     let ok = accepted (c .before .before .before .before .before) in
-    let event = isEvent-true (trace b) (s .args .event) (omega (arith, c .before .before .before .before .if2 .left))
-    (omega (arith, check-count b ok, c .before .before .before .event-count .ensures, c .before .before .if3 .left)) in
+    let event = isEvent-true (trace b) (s .args .event) (omega
+    (arith, c .before .before .before .before .if2 .left))
+    (omega (
+      arith,
+      check-count b ok,
+      c .before .before .before .event-count .ensures,
+      c .before .before
+          .if3 .left,
+    )) in
     c .relations-of .ensures ∙ ap (λ (σ : Trace). eventRelations σ (s .args .event)) (part-trace b)
     ∙ sym (relations-answer b (s .args .event) ok event)
 

@@ -6,7 +6,13 @@ use lib.ListN.{length}
 use Rattle.model.specs.Recording.{decodeAll}
 use Rattle.laws.proofs.Trace.{decodeAll-length}
 use Rattle.relations.specs.Tables.{Tables}
-use Rattle.relations.proofs.Laws.{tables-answer, locks-fit, matching-fits, writer-fits, predecessor-fits}
+use Rattle.relations.proofs.Laws.{
+  tables-answer,
+  locks-fit,
+  matching-fits,
+  writer-fits,
+  predecessor-fits,
+}
 use Rattle.relations.proofs.relations_of.Statement.{statement}
 use Rattle.relations.proofs.relations_of.Tie as tie
 
@@ -65,7 +71,13 @@ array-read-mask c = search needs
 cast-t29 : tie.Need-cast-t29
 cast-t29 c =
     let s = start c in
-    omega (arith, s .pre, decodeAll-length (s .args .records .now), locks-fit (filled c) (s .args .e) (s .pre .2) (inside s))
+    omega (
+      arith,
+      s .pre,
+      decodeAll-length (s .args .records .now),
+      locks-fit (filled c) (s .args .e)
+          (s .pre .2) (inside s),
+    )
 
 mul-t26 : tie.Need-mul-t26
 mul-t26 c = search needs
@@ -76,7 +88,13 @@ array-read-t33 c = search needs
 cast-t34 : tie.Need-cast-t34
 cast-t34 c =
     let s = start c in
-    omega (arith, s .pre, decodeAll-length (s .args .records .now), matching-fits (filled c) (s .args .e) (s .pre .2) (inside s))
+    omega (
+      arith,
+      s .pre,
+      decodeAll-length (s .args .records .now),
+      matching-fits (filled c) (s .args .e)
+          (s .pre .2) (inside s),
+    )
 
 mul-t35 : tie.Need-mul-t35
 mul-t35 c = search needs
@@ -87,7 +105,13 @@ array-read-t38 c = search needs
 cast-t39 : tie.Need-cast-t39
 cast-t39 c =
     let s = start c in
-    omega (arith, s .pre, decodeAll-length (s .args .records .now), writer-fits (filled c) (s .args .e) (s .pre .2) (inside s))
+    omega (
+      arith,
+      s .pre,
+      decodeAll-length (s .args .records .now),
+      writer-fits (filled c) (s .args .e)
+          (s .pre .2) (inside s),
+    )
 
 mul-t40 : tie.Need-mul-t40
 mul-t40 c = search needs
@@ -98,7 +122,13 @@ array-read-t43 c = search needs
 cast-t44 : tie.Need-cast-t44
 cast-t44 c =
     let s = start c in
-    omega (arith, s .pre, decodeAll-length (s .args .records .now), predecessor-fits (filled c) (s .args .e) (s .pre .2) (inside s))
+    omega (
+      arith,
+      s .pre,
+      decodeAll-length (s .args .records .now),
+      predecessor-fits (filled c)
+          (s .args .e) (s .pre .2) (inside s),
+    )
 
 returns : tie.Need-returns
 returns c =
