@@ -3,3 +3,4 @@
 -- of answers. No public contract names one.
 pub mod Walked
 pub mod Answered
+pub mod Frontier

@@ -1,0 +1,46 @@
+-- Visiting one event: what it adds to the wanted events, and to the latest acquires. The tables that it needs
+-- have the relations of each event.
+use Prim.Native.Nat.{ℕ, _≤_, _<_}
+use mathlib.Core.Path.{_≡_}
+use mathlib.Core.Bool.{cond, _&&_}
+use mathlib.Core.List.{List}
+use lib.Dec.{eqb, ltb}
+use lib.ListN.{length, getD, set}
+use Rattle.model.specs.Trace.{Trace, locks, task, object, isRead, isAcquire}
+use Rattle.model.specs.Relations.{predecessor, writer, matching}
+use Rattle.laws.specs.Frontier.{raised}
+
+-- The tables that a visit needs, with an entry for each event of the longest recording.
+pub record Reading (σ : Trace) (writers matches : List ℕ) : Type 0 where
+  pub writer-long : length writers ≡ 4096
+  pub matching-long : length matches ≡ 4096
+  pub writer-at : (e : ℕ) → 1 ≤ e → e ≤ length σ → getD writers e 0 ≡ writer σ e
+  pub matching-at : (e : ℕ) → 1 ≤ e → e ≤ length σ → getD matches e 0 ≡ matching σ e
+
+-- The tables that a closure needs.
+pub record Needed (σ : Trace) (predecessors writers matches : List ℕ) : Type 0 where
+  pub predecessor-long : length predecessors ≡ 4096
+  pub predecessor-at : (e : ℕ) → 1 ≤ e → e ≤ length σ → getD predecessors e 0 ≡ predecessor σ e
+  pub reading : Reading σ writers matches
+
+-- A table of the latest acquire of each lock: numbers of events, or 0.
+pub record Acquires (σ : Trace) (latest : List ℕ) : Type 0 where
+  pub long : length latest ≡ locks
+  pub small : (l : ℕ) → l < locks → getD latest l 0 ≤ length σ
+
+-- The latest acquires with event f.
+unfoldable pub latestWith : Trace → List ℕ → ℕ → List ℕ
+latestWith σ latest f =
+    cond (isAcquire σ f && ltb (getD latest (object σ f) 0) f) (set latest (object σ f) f) latest
+
+-- The wanted events with what event f needs: the writer of a read; of an acquire and the latest one of its lock,
+-- the match of the earlier one.
+unfoldable pub wantedWith : Trace → List ℕ → List ℕ → ℕ → List ℕ
+wantedWith σ want latest f =
+    let top = getD latest (object σ f) 0 in
+    cond (isRead σ f)
+    (cond (eqb (writer σ f) 0) want (raised want (task σ (writer σ f)) (writer σ f)))
+    (cond (isAcquire σ f)
+    (cond (eqb top 0) want
+    (cond (ltb top f) (raised want (task σ top) (matching σ top)) (raised want (task σ f) (matching σ f))))
+    want)
