@@ -2,3 +2,4 @@
 pub mod Visits
 pub mod Turning
 pub mod Totals
+pub mod Rounds

@@ -3,7 +3,7 @@
 use Prim.Native.Nat.{ℕ, _-_, _*_, _/_, _%_, _^_, _<_}
 use mathlib.Core.Path.{_≡_, sym, ap, _∙_}
 use mathlib.Core.Logic.{⊎-elim, _≢_}
-use mathlib.Core.Bool.{Bool, _||_, or-false}
+use mathlib.Core.Bool.{_||_, or-false}
 use mathlib.Core.List.{List}
 use native.Mathlib.Omega.{arith}
 use native.Mathlib.Nat.{mod-lt, div-add-mod'}
@@ -12,13 +12,9 @@ use lib.Dec.{eqb}
 use lib.ListN.{length, getD, set}
 use lib.Seq.{getD-set-same, getD-set-other}
 use borrow.Author.Tests.{eq-eqb, ne-eqb}
-use Rattle.model.specs.Lists.{hasBit}
+use Rattle.laws.specs.BitRow.{rowBit}
 use Rattle.laws.proofs.Tests.{equal?}
 use Rattle.laws.proofs.Bits.{hasBit-shift}
-
--- The bit at place i of a row in elements of w bits.
-abbrev pub rowBit : ℕ → List ℕ → ℕ → Bool
-rowBit w b i = hasBit (getD b (i / w) 0) (w - 1 - i % w)
 
 module _ (w : ℕ) (pos : 0 < w) where
   -- Places in one element have the same bit of it only where they are the same.

@@ -4,3 +4,4 @@
 pub mod Walked
 pub mod Answered
 pub mod Frontier
+pub mod BitRow
