@@ -5,11 +5,13 @@ use mathlib.Core.Path.{_≡_}
 use mathlib.Core.Logic.{_≢_}
 use mathlib.Core.Bool.{Bool, cond}
 use mathlib.Core.List.{List}
-use lib.Dec.{T, ltb}
+use lib.Dec.{T, leb, ltb}
 use lib.ListN.{length, getD, set}
 use Rattle.model.specs.Trace.{Trace, tasks, locks, task, object, isAcquire}
 use Rattle.model.specs.Relations.{predecessor, writer, matching}
+use Rattle.model.specs.EventSet.{has}
 use Rattle.model.specs.Closed.{Closed}
+use Rattle.model.specs.Pattern.{closureBefore}
 
 -- The table has the event of each task, or 0.
 pub record Frontier (σ : Trace) (front : List ℕ) : Type 0 where
@@ -69,3 +71,8 @@ pub record Turned (σ : Trace) (front want : List ℕ) (t : ℕ) (front′ want�
   pub entailed : Entails σ want want′
   pub grows : (u : ℕ) → getD want u 0 ≤ getD want′ u 0
   pub passed : front′ ≡ set front t (getD want t 0)
+
+-- The frontier of the closure of the predecessors of the events of p.
+pub record Before (σ : Trace) (p front latest : List ℕ) : Type 0 where
+  pub settled : Settled σ front front latest
+  pub members : (e : ℕ) → 1 ≤ e → e ≤ length σ → has (closureBefore σ p) e ≡ leb e (getD front (task σ e) 0)

@@ -1,7 +1,7 @@
--- Definitions for the contracts of inner functions: what the tables of a walk over a trace hold, and the
--- shapes
--- of answers. No public contract names one.
+-- Definitions for the contracts of inner functions: what the tables of a walk hold, the shapes of answers,
+-- frontiers, rows of bits, and chains. No public contract names one.
 pub mod Walked
 pub mod Answered
 pub mod Frontier
 pub mod BitRow
+pub mod Chain
