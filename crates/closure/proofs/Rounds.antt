@@ -1,7 +1,7 @@
 -- The frontier between turns: how it goes on after each, that turns come to an end, and what it is then.
 -- Assumes nothing.
 use Prim.Native.Nat.{ℕ, _+_, _-_, _*_, _≤_, _<_}
-use mathlib.Core.Path.{_≡_, sym, _∙_}
+use mathlib.Core.Path.{_≡_}
 use mathlib.Core.Logic.{⊎-elim, _≢_}
 use mathlib.Core.List.{List}
 use native.Mathlib.Omega.{arith}
@@ -58,8 +58,7 @@ module _ (σ : Trace) where
     -- Where no task has more to reach, the frontier is the closure's.
     pub round-end : WellFormed σ → tasks ≤ t → Advanced σ given front latest × (want ≡ front)
     round-end ok k =
-        let same = rest-same σ ok front want latest (z .settled) (λ u h. z .rest u (omega arith)) in
-        (
+        let same = rest-same σ ok front want latest (z .settled) (λ u h. z .rest u (omega arith)) in (
           record {
             settled = rw same at (z .settled);
             reached = λ u h. omega (arith, z .grows u, z .rest u (omega arith));
@@ -74,9 +73,9 @@ module _ (σ : Trace) where
         omega (
           arith,
           rw (f .long) at (total-le front′ 4095
-          (λ u h. ⊎-elim (λ (q : getD front′ u 0 ≡ 0). omega arith)
-          (λ (d : getD front′ u 0 ≢ 0). omega (arith, f .own u (omega (arith, f .long)) d))
-          (equal? (getD front′ u 0) 0))),
+              (λ u h. ⊎-elim (λ (q : getD front′ u 0 ≡ 0). omega arith)
+              (λ (d : getD front′ u 0 ≢ 0). omega (arith, f .own u (omega (arith, f .long)) d))
+              (equal? (getD front′ u 0) 0))),
         )
 
     -- A turn brings the end nearer.
@@ -85,7 +84,7 @@ module _ (σ : Trace) where
         → (65536 - total front′) * 17 + (16 - 0) < (65536 - total front) * 17 + (16 - t)
     round-less b l k front′ want′ latest′ n =
         let more : total front < total (set front t (getD want t 0)) =
-            total-grows front t (getD want t 0) (omega (arith, z .settled .front-ok .long)) k in
+        total-grows front t (getD want t 0) (omega (arith, z .settled .front-ok .long)) k in
         let grown : total front < total front′ = rw (n .passed) more in
         let bound = total-bound b front′ (n .settled .front-ok) in
         omega arith

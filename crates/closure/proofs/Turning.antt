@@ -1,14 +1,14 @@
 -- The frontier during a task's turn, from its beginning to its end. Assumes nothing.
 use Prim.Native.Nat.{ℕ, _≤_, _<_}
-use mathlib.Core.Path.{_≡_, refl, sym, _∙_}
-use mathlib.Core.Logic.{⊎-elim, _≢_}
+use mathlib.Core.Path.{_≡_, sym, _∙_}
+use mathlib.Core.Logic.{⊎-elim}
 use mathlib.Core.List.{List}
 use native.Mathlib.Omega.{arith}
 use lib.ListN.{length, getD, set}
 use lib.Seq.{getD-set-same}
-use Rattle.model.specs.Trace.{Trace, tasks, locks, task}
+use Rattle.model.specs.Trace.{Trace, tasks, task}
 use Rattle.model.specs.Relations.{predecessor}
-use Rattle.laws.specs.Frontier.{Frontier, Behind, Visited, Advancing, Settled, Entails, Turned}
+use Rattle.laws.specs.Frontier.{Behind, Advancing, Settled, Entails, Turned}
 use Rattle.laws.proofs.Tests.{equal?}
 use Rattle.laws.proofs.Trace.{sameTask-iff}
 use Rattle.laws.proofs.Relations.{predecessor-latest, predecessor-below}
@@ -67,9 +67,8 @@ module _ (σ : Trace) where
       earlier : old < predecessor σ f → (task σ (predecessor σ f) ≡ t) × Behind σ front (predecessor σ f)
       earlier h =
           let same : task σ f ≡ task σ (predecessor σ f) =
-              sameTask-iff σ f (predecessor σ f) .0 (predecessor-latest σ f .passes (omega arith)) in
-          let low = predecessor-below σ f in
-          (
+          sameTask-iff σ f (predecessor σ f) .0 (predecessor-latest σ f .passes (omega arith)) in
+          let low = predecessor-below σ f in (
             sym same ∙ at-f .0,
             record {
               event = omega (arith, at-f .1 .event);

@@ -1,12 +1,12 @@
 -- What visiting an event leaves, by its operation and the latest acquire of its lock, and how the frontier goes
 -- on then. Assumes nothing.
 use Prim.Native.Nat.{ℕ, _*_, _≤_, _<_}
-use mathlib.Core.Path.{_≡_, refl, sym, ap, _∙_}
+use mathlib.Core.Path.{_≡_, refl, sym, _∙_}
 use mathlib.Core.Logic.{⊎-elim, _≢_}
-use mathlib.Core.Bool.{Bool, true, false, cond, _&&_}
+use mathlib.Core.Bool.{false}
 use mathlib.Core.List.{List}
 use native.Mathlib.Omega.{arith}
-use lib.Dec.{T, eqb, ltb}
+use lib.Dec.{T}
 use lib.ListN.{length, getD, set}
 use borrow.Author.Tests.{eq-eqb, ne-eqb, eqb-true, lt-ltb, le-ltb}
 use Rattle.model.specs.Trace.{Trace, tasks, locks, at, task, object, isRead, isAcquire}
@@ -14,10 +14,10 @@ use Rattle.model.specs.Relations.{predecessor, writer, matching}
 use Rattle.model.specs.Recording.{decodeAll}
 use Rattle.model.specs.Closed.{Again}
 use Rattle.model.specs.Calls.Check.{checkEvents}
-use Rattle.laws.specs.Frontier.{Frontier, Behind, Visited, Advancing, Settled, Entails, raised}
+use Rattle.laws.specs.Frontier.{Frontier, Behind, Visited, Advancing, Entails, raised}
 use Rattle.laws.proofs.Tests.{or-l, is-true, equal?, at-most?}
 use Rattle.laws.proofs.Trace.{sameObject-iff, decodeAll-length}
-use Rattle.laws.proofs.Relations.{predecessor-latest, predecessor-below, writer-below, writer-read}
+use Rattle.laws.proofs.Relations.{writer-below, writer-read}
 use Rattle.laws.proofs.Relations.{matching-below}
 use Rattle.laws.proofs.Faults.{isRead-op, isAcquire-op}
 use Rattle.laws.proofs.Frontier.{raised-grows, raised-reaches, raised-frontier}

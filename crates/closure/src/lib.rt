@@ -3,7 +3,9 @@
 ghost use Prim.Native.Nat.{_+_, _*_, _/_, _<_, _≤_};
 ghost use mathlib.Core.Path.{_≡_};
 ghost use lib.ListN.{length, getD};
-ghost use Rattle.model.specs.Trace.{tasks};
+ghost use lib.Dec.{leb};
+ghost use Rattle.model.specs.Trace.{tasks, task};
+ghost use Rattle.model.specs.Relations.{predecessor};
 ghost use Rattle.model.specs.Recording.{decodeAll};
 ghost use Rattle.model.specs.Calls.Check.{checkEvents};
 ghost use Rattle.laws.specs.Frontier.{Settled, raised, Advanced, Turned};
@@ -114,10 +116,51 @@ pub fn advance(
     let mut t = 0;
     while t < 16 {
         if front[t] < want[t] {
-            turn(records, predecessors, writers, matches, front, want, latest, t);
+            turn(
+                records,
+                predecessors,
+                writers,
+                matches,
+                front,
+                want,
+                latest,
+                t,
+            );
             t = 0;
         } else {
             t = t + 1;
         }
     }
+}
+
+// Extends the closed set of a frontier by the predecessor of event e.
+pub fn extend(
+    records: &[u8],
+    predecessors: &[u16],
+    writers: &[u16],
+    matches: &[u16],
+    front: &mut [u16],
+    want: &mut [u16],
+    latest: &mut [u16],
+    e: usize,
+)
+    requires { ⌜ (length (now records) ≤ 8190) × (checkEvents (decodeAll (now records)) .refusal ≡ 0)
+        × Needed (decodeAll (now records)) (now predecessors) (now writers) (now matches)
+        × Settled (decodeAll (now records)) (now front) (now front) (now latest)
+        × (now want ≡ now front) × (1 ≤ e) × (2 * e ≤ length (now records)) ⌝ }
+    ensures { λ r. ⌜ Advanced (decodeAll (now (records .entry)))
+        (raised (now (front .entry)) (task (decodeAll (now (records .entry))) e)
+        (predecessor (decodeAll (now (records .entry))) e))
+        (now (front .exit)) (now (latest .exit)) × (now (want .exit) ≡ now (front .exit)) ⌝ }
+{
+    raise(want, recording::task(records, e) as usize, predecessors[e]);
+    advance(records, predecessors, writers, matches, front, want, latest);
+}
+
+// Event e is in the set of the frontier.
+pub fn contains(records: &[u8], front: &[u16], e: usize) -> bool
+    requires { ⌜ (1 ≤ e) × (2 * e ≤ length (now records)) × (length (now front) ≡ tasks) ⌝ }
+    ensures { λ r. ⌜ r ≡ leb e (getD (now (front .entry)) (task (decodeAll (now (records .entry))) e) 0) ⌝ }
+{
+    e <= front[recording::task(records, e) as usize] as usize
 }

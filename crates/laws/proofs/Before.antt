@@ -21,7 +21,7 @@ use Rattle.laws.specs.Frontier.{Frontier, Behind, Visited, Advancing, Se
 use Rattle.laws.proofs.Tests.{decided, is-false, equal?}
 use Rattle.laws.proofs.Lists.{all-ext, all-iff}
 use Rattle.laws.proofs.Trace.{sameTask-iff, isEvent-iff}
-use Rattle.laws.proofs.Relations.{predecessor-latest, predecessor-below}
+use Rattle.laws.proofs.Relations.{predecessor-below, predecessor-own}
 use Rattle.laws.proofs.Frontier.{raised-grows, raised-reaches, raised-cases, raised-frontier}
 use Rattle.laws.proofs.WellFormed.{WellFormed}
 use Rattle.laws.proofs.Turns.{settled-start}
@@ -101,9 +101,6 @@ module _ (σ : Trace) where
       small : task σ e < length front
       small = omega (arith, ok .task-lt e h k, z .settled .front-ok .long)
 
-      own : predecessor σ e ≢ 0 → task σ (predecessor σ e) ≡ task σ e
-      own d = sym (sameTask-iff σ e (predecessor σ e) .0 (predecessor-latest σ e .passes d))
-
       reach : (x : ℕ) → T (has (predecessors σ (p ++ e ∷ [])) x)
           → x ≤ getD (raised front (task σ e) (predecessor σ e)) (task σ x) 0
       reach = predecessors-least σ _ (p ++ e ∷ []) new
@@ -122,14 +119,14 @@ module _ (σ : Trace) where
                   let u = task σ (predecessor σ f) in
                   let inside : T (has (closureBefore σ p) (predecessor σ f)) = start f n d l in
                   let low = leb→le (predecessor σ f) (getD front u 0)
-                      (rw (z .members (predecessor σ f) (omega arith) l) at inside) in
+                  (rw (z .members (predecessor σ f) (omega arith) l) at inside) in
                   omega (arith, raised-grows front (task σ e) (predecessor σ e) small u)
 
               latest-one : f ≡ e
                   → predecessor σ f ≤ getD (raised front (task σ e) (predecessor σ e)) (task σ (predecessor σ f)) 0
               latest-one q =
                   let d′ : predecessor σ e ≢ 0 = rw q at d in
-                  rw (q, own d′) (raised-reaches front (task σ e) (predecessor σ e) small)
+                  rw (q, predecessor-own σ e d′) (raised-reaches front (task σ e) (predecessor σ e) small)
 
       tops : (u : ℕ) → u < tasks → getD (raised front (task σ e) (predecessor σ e)) u 0 ≢ 0
           → T (has (closure σ (predecessors σ (p ++ e ∷ []))) (getD (raised front (task σ e) (predecessor σ e)) u 0))
@@ -141,7 +138,7 @@ module _ (σ : Trace) where
               let n : getD front u 0 ≢ 0 = rw q at d in
               let (low, mine) = z .settled .front-ok .own u l n in
               let here : T (has (closureBefore σ p) (getD front u 0)) =
-                  rw (z .members (getD front u 0) (omega arith) low, mine) (le→leb (getD front u 0) (getD front u 0) (omega arith)) in
+              rw (z .members (getD front u 0) (omega arith) low, mine) (le→leb (getD front u 0) (getD front u 0) (omega arith)) in
               rw q (before-mono σ p (e ∷ []) (getD front u 0) here)
 
           new : (u ≡ task σ e) × (getD (raised front (task σ e) (predecessor σ e)) u 0 ≡ predecessor σ e)
@@ -160,4 +157,4 @@ module _ (σ : Trace) where
   unfolding isDeadlock
   before-deadlock p front latest z t =
       all-ext _ _ p (λ e m.
-          let (h, k) = isEvent-iff σ e .0 (all-iff (isEvent σ) p .0 t e m) in ap not (z .members e h k))
+      let (h, k) = isEvent-iff σ e .0 (all-iff (isEvent σ) p .0 t e m) in ap not (z .members e h k))

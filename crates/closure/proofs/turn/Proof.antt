@@ -1,11 +1,8 @@
 -- `closure::turn` meets its contract: the frontier is on its way from the wanted event to the old one.
 -- Assumes nothing.
-use Prim.Native.Nat.{_*_, _≤_, _<_}
 use mathlib.Core.Path.{_≡_, refl, sym, _∙_}
-use mathlib.Core.List.{List}
 use native.Mathlib.Omega.{arith}
-use borrow.Author.Needs.{needs}
-use lib.ListN.{length, getD, set, length-set}
+use lib.ListN.{getD, length-set}
 use Rattle.model.specs.Recording.{decodeAll}
 use Rattle.laws.proofs.Trace.{decodeAll-length}
 use Rattle.laws.proofs.Relations.{predecessor-below}
@@ -47,10 +44,9 @@ slice-write-front c =
 
 loop-holds : tie.Need-loop-holds Inv-loop μ-loop
 loop-holds c =
-    let s = c .before .before .before .before .before .before .before .before .before in
-    (
+    let s = c .before .before .before .before .before .before .before .before .before in (
       turning-begin (decodeAll (s .args .records .now)) (s .args .front .now) (s .args .want .now)
-      (s .args .latest .now) (s .args .t) (s .pre .3) (s .pre .4) (s .pre .5),
+          (s .args .latest .now) (s .args .t) (s .pre .3) (s .pre .4) (s .pre .5),
       refl,
     )
 
@@ -59,8 +55,7 @@ visit-requires c κs =
     let s = c .before .before .before .before .before .before .before .before .before .before .before .before .before in
     let k = c .before .before .before .loop in
     let σ = decodeAll (s .args .records .now) in
-    let at-f = k .inv .0 .next (c .before .before .loop-test .taken) .1 .event in
-    (
+    let at-f = k .inv .0 .next (c .before .before .loop-test .taken) .1 .event in (
       at-f .0,
       omega (arith, at-f, decodeAll-length (s .args .records .now)),
       s .pre .0,
@@ -101,11 +96,10 @@ loop-again c =
     let σ = decodeAll (s .args .records .now) in
     let at-f = k .inv .0 .next (c .before .before .before .before .before .before .before .before .loop-test .taken) .1 .event in
     let p = s .pre .2 .predecessor-at (k .f) (at-f .0) (at-f .1) in
-    let v = c .before .before .before .before .before .visit .ensures in
-    (
+    let v = c .before .before .before .before .before .visit .ensures in (
       rw (p, v .0, v .1)
-      (turning-step σ (events-sound (s .args .records .now) (s .pre .1)) _ _ (k .want) (k .latest) (s .args .t) _ (k .f)
-      (k .inv .0) (c .before .before .before .before .before .before .before .before .loop-test .taken)),
+          (turning-step σ (events-sound (s .args .records .now) (s .pre .1)) _ _ (k .want) (k .latest) (s .args .t) _ (k .f)
+          (k .inv .0) (c .before .before .before .before .before .before .before .before .loop-test .taken)),
       k .inv .1,
     )
 

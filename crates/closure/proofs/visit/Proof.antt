@@ -1,6 +1,6 @@
 -- `closure::visit` meets its contract: each return cites the law of its case. Assumes nothing.
-use Prim.Native.Nat.{_*_, _≤_, _<_}
-use mathlib.Core.Path.{_≡_, refl, sym, _∙_}
+use Prim.Native.Nat.{_≤_}
+use mathlib.Core.Path.{refl, sym, _∙_}
 use native.Mathlib.Omega.{arith}
 use borrow.Author.Needs.{needs}
 use lib.ListN.{length, getD}
@@ -148,8 +148,7 @@ cast-task-2 c =
 
 task-requires-2 : tie.Need-task-requires-2
 task-requires-2 c κs =
-    let s = c .before .before .before .before .before .before .before .before .before .before .before .before .before .before in
-    (
+    let s = c .before .before .before .before .before .before .before .before .before .before .before .before .before .before in (
       omega (arith, c .before .before .before .if4 .left),
       omega (arith, top-in (c .before .before), decodeAll-length (s .args .records .now)),
     )
@@ -172,9 +171,9 @@ returns-5 c =
     let some = c .before .before .before .before .before .before .before .if4 .left in
     let event : 1 ≤ getD (s .args .latest .now) (c .before .before .before .before .before .before .before .before .before .object .result) 0 = omega arith in
     let (x, y) =
-        acquire-later (decodeAll (s .args .records .now)) (s .args .f) _ (c .before .before .before .before .before .before .before .before .before .before .before .before .operation .ensures .1) (s .args .want .now) (s .args .latest .now) (c .before .before .before .before .before .before .before .before .before .before .if3 .left) _
-        (c .before .before .before .before .before .before .before .before .before .object .ensures .1) _ refl some (c .before .before .before .before .before .before .if5 .taken) _
-        (s .pre .5 .matching-at _ event (top-in (c .before .before .before .before .before .before))) _ (c .before .before .before .task2 .ensures .1) in
+    acquire-later (decodeAll (s .args .records .now)) (s .args .f) _ (c .before .before .before .before .before .before .before .before .before .before .before .before .operation .ensures .1) (s .args .want .now) (s .args .latest .now) (c .before .before .before .before .before .before .before .before .before .before .if3 .left) _
+    (c .before .before .before .before .before .before .before .before .before .object .ensures .1) _ refl some (c .before .before .before .before .before .before .if5 .taken) _
+    (s .pre .5 .matching-at _ event (top-in (c .before .before .before .before .before .before))) _ (c .before .before .before .task2 .ensures .1) in
     (c .before .before .raise2 .ensures ∙ x, y)
 
 mul-m-2 : tie.Need-mul-m-2
@@ -199,9 +198,9 @@ returns-6 : tie.Need-returns-6
 returns-6 c =
     let s = c .before .before .before .before .before .before .before .before .before .before .before .before .before .before .before .before .before .before in
     let (x, y) =
-        acquire-earlier (decodeAll (s .args .records .now)) (s .args .f) _ (c .before .before .before .before .before .before .before .before .before .before .before .before .operation .ensures .1) (s .args .want .now) (s .args .latest .now) (c .before .before .before .before .before .before .before .before .before .before .if3 .left) _
-        (c .before .before .before .before .before .before .before .before .before .object .ensures .1) _ refl (c .before .before .before .before .before .before .before .if4 .left) (c .before .before .before .before .before .before .if5 .left) _
-        (s .pre .5 .matching-at (s .args .f) (event-in (s .args .records .now) (s .pre .3) (s .args .f) (s .pre .0, s .pre .1) .0) (event-in (s .args .records .now) (s .pre .3) (s .args .f) (s .pre .0, s .pre .1) .1)) _ (c .before .before .before .task3 .ensures .1) in
+    acquire-earlier (decodeAll (s .args .records .now)) (s .args .f) _ (c .before .before .before .before .before .before .before .before .before .before .before .before .operation .ensures .1) (s .args .want .now) (s .args .latest .now) (c .before .before .before .before .before .before .before .before .before .before .if3 .left) _
+    (c .before .before .before .before .before .before .before .before .before .object .ensures .1) _ refl (c .before .before .before .before .before .before .before .if4 .left) (c .before .before .before .before .before .before .if5 .left) _
+    (s .pre .5 .matching-at (s .args .f) (event-in (s .args .records .now) (s .pre .3) (s .args .f) (s .pre .0, s .pre .1) .0) (event-in (s .args .records .now) (s .pre .3) (s .args .f) (s .pre .0, s .pre .1) .1)) _ (c .before .before .before .task3 .ensures .1) in
     (c .before .before .raise3 .ensures ∙ x, y)
 
 pub visit-spec : {M : Type 1} → statement M
