@@ -66,3 +66,7 @@ module _ (σ : Trace) where
   -- The list is of events, and closes the chain.
   abbrev pub completing : Chain → List ℕ → Bool
   completing c q = all (isEvent σ) q && closing c q
+
+-- A chain by its first and last event and its masks; which events lie between does not matter to its tests.
+abbrev pub chainOf : ℕ → ℕ → ℕ → ℕ → Chain
+chainOf first last tasks guards = record { events = []; first = first; last = last; tasks = tasks; guards = guards }

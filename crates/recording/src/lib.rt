@@ -2,13 +2,22 @@
 // `records` is the part of a recording after its header of two bytes, wherever it stands.
 ghost use Prim.Native.Nat.{_+_, _*_, _-_, _<_, _≤_};
 ghost use mathlib.Core.Path.{_≡_};
-ghost use lib.ListN.{length};
+ghost use lib.ListN.{length, getD};
+ghost use Rattle.model.specs.Bytes.{numbers};
 ghost use Rattle.model.specs.Trace.{at, task, object};
 ghost use Rattle.model.specs.Recording.{decodeAll, eventCount};
 ghost use Rattle.model.specs.WellFormed.{fault};
 ghost use Rattle.model.specs.Calls.Check.{checkEvents, check};
 ghost use Rattle.recording.specs.Asked.{Asked};
 use model::Outcome;
+
+// The number at place i of bytes that are numbers of two bytes, the high byte first.
+pub fn number(bytes: &[u8], i: usize) -> u16
+    requires { ⌜ 2 * i + 2 ≤ length (now bytes) ⌝ }
+    ensures { λ r. ⌜ r ≡ getD (numbers (now (bytes .entry))) i 0 ⌝ }
+{
+    ((bytes[2 * i] as u16) << 8) | (bytes[2 * i + 1] as u16)
+}
 
 // The operation of event e: the top 2 bits of its record.
 pub fn operation(records: &[u8], e: usize) -> u8

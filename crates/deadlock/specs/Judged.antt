@@ -1,0 +1,19 @@
+-- What is decided of a lent pattern, as one number, and the table that question 10 reads.
+use Prim.Native.Nat.{ℕ, _≤_}
+use mathlib.Core.Path.{_≡_}
+use mathlib.Core.Bool.{cond, _&&_}
+use mathlib.Core.List.{List}
+use lib.ListN.{length, getD}
+use Rattle.model.specs.Bytes.{numbers, isWhole}
+use Rattle.model.specs.Trace.{Trace}
+use Rattle.model.specs.Relations.{held}
+use Rattle.model.specs.Pattern.{isPattern, isDeadlock}
+
+-- The table of held locks, with an entry for each event of the longest recording.
+pub record Holding (σ : Trace) (holding : List ℕ) : Type 0 where
+  pub long : length holding ≡ 4096
+  pub at : (e : ℕ) → 1 ≤ e → e ≤ length σ → getD holding e 0 ≡ held σ e
+
+-- Of the bytes of a pattern: 0 for none (question 10 is answered "no"), 1 for the verdict "not", 2 for deadlock.
+unfoldable pub judged : Trace → List ℕ → ℕ
+judged σ p = cond (isWhole p && isPattern σ (numbers p)) (cond (isDeadlock σ (numbers p)) 2 1) 0
