@@ -1,23 +1,27 @@
 -- When an event fits a chain, by what code reads of it, and when numbers complete one. Assumes nothing.
 use Prim.Native.Nat.{ℕ, suc, _+_, _*_, _/_, _%_, _^_, _≤_, _<_}
 use mathlib.Core.Path.{_≡_, refl, sym, ap, _∙_}
-use mathlib.Core.Logic.{⊎-elim, _≢_}
-use mathlib.Core.Bool.{Bool, true, false, not, _&&_, and-false}
+use mathlib.Core.Logic.{_⊎_, ⊎-elim, _≢_}
+use mathlib.Core.Bool.{Bool, true, false, not, _&&_, and-false, true≢false}
 use mathlib.Core.List.{List, [], _∷_}
 use native.Mathlib.Omega.{arith}
 use native.Mathlib.Numerals.{add-one}
 use lib.Bits.{bitAnd, bitOr}
-use lib.Dec.{T, eqb, ltb}
-use lib.ListN.{length, getD, drop, drop-of-length-le}
+use lib.Dec.{T, not-T, eqb, ltb}
+use lib.ListN.{length, getD, drop, drop-of-length-le, length-drop}
 use lib.Seq.{drop-cons}
 use borrow.Author.Tests.{eq-eqb, ne-eqb, lt-ltb, le-ltb}
 use Rattle.model.specs.Lists.{hasBit}
+use Rattle.model.specs.Bytes.{numbers, isWhole}
+use Rattle.model.specs.Pattern.{isPattern}
 use Rattle.model.specs.Trace.{Trace, at, task, object, isEvent, isAcquire}
 use Rattle.model.specs.Relations.{held}
 use Rattle.laws.specs.Chain.{Chain, signature, start, add, fits, closes, completing, chainOf}
-use Rattle.laws.proofs.Bits.{shift-one}
+use Rattle.laws.proofs.Tests.{parts, is-true, is-false, tests}
+use Rattle.laws.proofs.Bytes.{numbers-length}
+use Rattle.laws.proofs.Pattern.{isPattern-iff}
 use Rattle.laws.proofs.Faults.{isAcquire-op}
-use Rattle.laws.proofs.Search.{completing-cons, completing-end}
+use Rattle.laws.proofs.Search.{completing-cons, completing-end, pattern-completing}
 
 -- ---- one event
 
@@ -40,3 +44,107 @@ module _ (σ : Trace) (last tasks guards e : ℕ) {op : ℕ} (is-op : op ≡ at 
         → eqb (bitAnd guards h) 0 ≡ fits (signature σ) (chainOf 0 last tasks guards) e
     fits-guards a y n =
         rw (isAcquire-op σ e is-op, a, ← is-held, ← is-lock, ← is-task, y, n)
+
+-- ---- the numbers of a pattern, one after the other
+
+module _ (σ : Trace) (ns : List ℕ) (a last tasks guards i : ℕ) (inside : i < length ns) where
+  -- What is left to ask of the numbers from place i on.
+  next : (c : Chain) → completing σ c (drop i ns)
+      ≡ (isEvent σ (getD ns i 0) && (ltb (c .first) (getD ns i 0)
+      && (fits (signature σ) c (getD ns i 0) && completing σ (add (signature σ) c (getD ns i 0)) (drop (i + 1) ns))))
+  next c =
+      ap (completing σ c) (drop-cons ns i 0 inside ∙ ap (λ (n : ℕ). getD ns i 0 ∷ drop n ns) (sym (add-one i)))
+      ∙ completing-cons σ c (getD ns i 0) (drop (i + 1) ns)
+
+  -- A number that is no later event than the first completes nothing.
+  pub completing-early : getD ns i 0 ≤ a → completing σ (chainOf a last tasks guards) (drop i ns) ≡ false
+  completing-early h =
+      next (chainOf a last tasks guards) ∙ rw (le-ltb a (getD ns i 0) h) (and-false (isEvent σ (getD ns i 0)))
+
+  -- Nor does one past the last event.
+  pub completing-past : isEvent σ (getD ns i 0) ≡ false
+      → completing σ (chainOf a last tasks guards) (drop i ns) ≡ false
+  completing-past h = next (chainOf a last tasks guards) ∙ rw h
+
+  -- Nor does one that does not fit.
+  pub completing-unfit : fits (signature σ) (chainOf 0 last tasks guards) (getD ns i 0) ≡ false
+      → completing σ (chainOf a last tasks guards) (drop i ns) ≡ false
+  completing-unfit h =
+      next (chainOf a last tasks guards)
+      ∙ rw (h, and-false (ltb a (getD ns i 0))) (and-false (isEvent σ (getD ns i 0)))
+
+  -- One that fits leaves the rest to complete the longer chain.
+  pub completing-fit : (e t g : ℕ) → e ≡ getD ns i 0 → isEvent σ e ≡ true → a < e
+      → fits (signature σ) (chainOf 0 last tasks guards) e ≡ true
+      → t ≡ bitOr tasks (2 ^ task σ e) → g ≡ bitOr guards (held σ e)
+      → completing σ (chainOf a e t g) (drop (i + 1) ns) ≡ completing σ (chainOf a last tasks guards) (drop i ns)
+  completing-fit e t g q y h f r s =
+      rw (r, s, q)
+      (sym (next (chainOf a last tasks guards)
+      ∙ rw (rw q at y, lt-ltb a (getD ns i 0) (rw q at h), rw q at f)))
+
+-- What fits is an acquire.
+pub fits-acquires : (σ : Trace) (last tasks guards e : ℕ)
+    → fits (signature σ) (chainOf 0 last tasks guards) e ≡ true → T (isAcquire σ e)
+fits-acquires σ last tasks guards e f =
+    let t : T (fits (signature σ) (chainOf 0 last tasks guards) e) = rw f tt in search parts
+
+-- The chain of one event, by what code reads of it.
+pub completing-start : (σ : Trace) (a t g : ℕ) (q : List ℕ) → t ≡ 2 ^ task σ a → g ≡ held σ a
+    → completing σ (chainOf a a t g) q ≡ completing σ (start (signature σ) a) q
+completing-start σ a t g q r s = rw (r, s)
+
+-- Where no number is left, the last event's lock decides.
+pub completing-last : (σ : Trace) (ns : List ℕ) (a last tasks guards i : ℕ) → length ns ≤ i
+    → completing σ (chainOf a last tasks guards) (drop i ns) ≡ hasBit (held σ a) (object σ last)
+completing-last σ ns a last tasks guards i h =
+    rw (drop-of-length-le ns h) (completing-end σ (chainOf a last tasks guards))
+
+-- ---- question 10
+
+module _ (σ : Trace) (p : List ℕ) where
+  -- An odd length is no pattern's.
+  pub lends-odd : length p % 2 ≢ 0 → false ≡ (isWhole p && isPattern σ (numbers p))
+  lends-odd d = rw (ne-eqb (length p % 2) 0 d)
+
+  -- Nor are fewer than two numbers or more than sixteen.
+  pub lends-size : (length p < 4) ⊎ (32 < length p) → false ≡ (isWhole p && isPattern σ (numbers p))
+  lends-size h =
+      rw (is-false (isPattern σ (numbers p)) (not-T (isPattern σ (numbers p)) other)) (sym (and-false (isWhole p)))
+    where
+      other : T (isPattern σ (numbers p)) → ⊥
+      other t =
+          let z = isPattern-iff σ (numbers p) .0 t in
+          ⊎-elim (λ a. omega (tests, z .least, numbers-length p)) (λ a. omega (tests, z .most, numbers-length p)) h
+
+  module _ (whole : length p % 2 ≡ 0) (least : 4 ≤ length p) (most : length p ≤ 32) where
+    -- The first number, and what the others must complete.
+    lends-is : (isWhole p && isPattern σ (numbers p))
+        ≡ (isEvent σ (getD (numbers p) 0 0) && (isAcquire σ (getD (numbers p) 0 0)
+        && completing σ (start (signature σ) (getD (numbers p) 0 0)) (drop 1 (numbers p))))
+    lends-is =
+        let count = numbers-length p in
+        let rest = length-drop 1 (numbers p) in
+        rw (eq-eqb (length p % 2) 0 whole)
+        (ap (isPattern σ) (drop-cons (numbers p) 0 0 (omega arith))
+        ∙ pattern-completing σ (getD (numbers p) 0 0) (drop 1 (numbers p)) (omega arith) (omega arith))
+
+    -- A first number that is no acquire.
+    pub lends-first : (isEvent σ (getD (numbers p) 0 0) && isAcquire σ (getD (numbers p) 0 0)) ≡ false
+        → false ≡ (isWhole p && isPattern σ (numbers p))
+    lends-first n = sym (lends-is ∙ drops (isEvent σ (getD (numbers p) 0 0)) (isAcquire σ (getD (numbers p) 0 0)) _ n)
+      where
+        drops : (x y z : Bool) → (x && y) ≡ false → (x && (y && z)) ≡ false
+        drops true true z h = absurd (true≢false h)
+        drops true false z h = refl
+        drops false y z h = refl
+
+    -- An acquire leaves it to the others.
+    pub lends-rest : (isEvent σ (getD (numbers p) 0 0) && isAcquire σ (getD (numbers p) 0 0)) ≡ true
+        → completing σ (start (signature σ) (getD (numbers p) 0 0)) (drop 1 (numbers p))
+        ≡ (isWhole p && isPattern σ (numbers p))
+    lends-rest y =
+        let t : T (isEvent σ (getD (numbers p) 0 0) && isAcquire σ (getD (numbers p) 0 0)) = rw y tt in
+        let e = is-true (isEvent σ (getD (numbers p) 0 0)) (search parts) in
+        let a = is-true (isAcquire σ (getD (numbers p) 0 0)) (search parts) in
+        sym (lends-is ∙ rw (e, a))

@@ -55,3 +55,58 @@ pub fn follows(records: &[u8], holding: &[u64], last: usize, tasks: u64, guards:
     }
     guards & held == 0
 }
+
+// The numbers after the first complete the chain of the acquire a: each fits the chain before it, and the last
+// one's lock is held at the first.
+fn completes(records: &[u8], holding: &[u64], pattern: &[u8], a: usize) -> bool
+    requires { ⌜ (1 ≤ a) × (2 * a ≤ length (now records)) × (length (now records) ≤ 8190)
+        × (checkEvents (decodeAll (now records)) .refusal ≡ 0) × Holding (decodeAll (now records)) (now holding)
+        × T (isAcquire (decodeAll (now records)) a) × (2 ≤ length (now pattern)) ⌝ }
+    ensures { λ r. ⌜ r ≡ completing (decodeAll (now (records .entry))) (start (signature (decodeAll (now (records .entry)))) a)
+        (drop 1 (numbers (now (pattern .entry)))) ⌝ }
+{
+    let mut last = a;
+    let mut tasks = 1 << (recording::task(records, a) as u64);
+    let mut guards = holding[a];
+    let mut i = 1;
+    while i < pattern.len() / 2 {
+        let e = recording::number(pattern, i) as usize;
+        if e <= a {
+            return false;
+        }
+        if records.len() / 2 < e {
+            return false;
+        }
+        if !follows(records, holding, last, tasks, guards, e) {
+            return false;
+        }
+        last = e;
+        tasks = tasks | (1 << (recording::task(records, e) as u64));
+        guards = guards | holding[e];
+        i = i + 1;
+    }
+    in_mask(holding[a], recording::object(records, last) as u64)
+}
+
+// Question 10: the lent bytes are a deadlock pattern of the records, smallest event first.
+pub fn lends_pattern(records: &[u8], holding: &[u64], pattern: &[u8]) -> bool
+    requires { ⌜ (length (now records) ≤ 8190) × (checkEvents (decodeAll (now records)) .refusal ≡ 0)
+        × Holding (decodeAll (now records)) (now holding) ⌝ }
+    ensures { λ r. ⌜ r ≡ (isWhole (now (pattern .entry))
+        && isPattern (decodeAll (now (records .entry))) (numbers (now (pattern .entry)))) ⌝ }
+{
+    if pattern.len() % 2 != 0 {
+        return false;
+    }
+    if pattern.len() < 4 {
+        return false;
+    }
+    if 32 < pattern.len() {
+        return false;
+    }
+    let a = recording::number(pattern, 0) as usize;
+    if !is_acquire(records, a) {
+        return false;
+    }
+    completes(records, holding, pattern, a)
+}

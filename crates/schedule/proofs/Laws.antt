@@ -1,0 +1,1 @@
+-- What the tables tell of an event is what the definitions say. Assumes nothing.

@@ -1,0 +1,24 @@
+-- What the tables tell of an event, as the checker asks them. That it is what the definitions of `model` say is
+-- in proofs/Laws.
+use Prim.Native.Nat.{ℕ}
+use mathlib.Core.Bool.{Bool, true, false, cond}
+use mathlib.Core.List.{List}
+use lib.Dec.{eqb, leb}
+use lib.ListN.{getD}
+use Rattle.model.specs.Trace.{Trace, task, object}
+use Rattle.model.specs.Relations.{predecessor, matching}
+
+-- The event is listed: it is no later than the latest listed event of its task. 0 is none.
+unfoldable pub isListed : Trace → List ℕ → ℕ → Bool
+isListed σ last e = cond (eqb e 0) false (leb e (getD last (task σ e) 0))
+
+-- The event is enabled (01: next): its predecessor is the latest listed event of its task.
+unfoldable pub isNext : Trace → List ℕ → ℕ → Bool
+isNext σ last e = eqb (predecessor σ e) (getD last (task σ e) 0)
+
+-- The acquire finds its lock free and keeps lock order: no acquire of the lock is listed, or the latest one is
+-- earlier and its match is listed.
+unfoldable pub isUnlocked : Trace → List ℕ → List ℕ → ℕ → Bool
+isUnlocked σ last acquires e =
+    let latest = getD acquires (object σ e) 0 in
+    cond (eqb latest 0) true (cond (leb e latest) false (isListed σ last (matching σ latest)))

@@ -1,0 +1,206 @@
+// The schedule checker: whether a proposed schedule, from any producer, is order-keeping and leaves the events
+// of a pattern next. It walks through the schedule once, with three tables of what is listed.
+ghost use Prim.Native.Nat.{ℕ, _+_, _*_, _/_, _<_, _≤_};
+ghost use mathlib.Core.Path.{_≡_};
+ghost use mathlib.Core.Bool.{true, _&&_};
+ghost use mathlib.Core.List.{List, _∷_};
+ghost use lib.Dec.{T};
+ghost use lib.ListN.{length, getD, replicate};
+ghost use Rattle.model.specs.Lists.{all};
+ghost use Rattle.model.specs.Trace.{tasks, locks, object, isEvent};
+ghost use Rattle.model.specs.Relations.{predecessor, matching};
+ghost use Rattle.model.specs.Recording.{decodeAll};
+ghost use Rattle.model.specs.Bytes.{numbers, isWhole};
+ghost use Rattle.model.specs.Schedule.{mayFollow, syncPreserving, witnesses};
+ghost use Rattle.model.specs.Calls.Check.{checkEvents};
+ghost use Rattle.schedule.specs.Listed.{Checking, UpTo, Listed, Ready};
+ghost use Rattle.schedule.specs.Next.{isListed, isNext, isUnlocked};
+
+// Number i, from 0, of numbers of two bytes, the high byte first.
+fn number(bytes: &[u8], i: usize) -> u16
+    requires { ⌜ i < length (now bytes) / 2 ⌝ }
+    ensures { λ r. ⌜ r ≡ getD (numbers (now (bytes .entry))) i 0 ⌝ }
+{
+    ((bytes[2 * i] as u16) << 8) | (bytes[2 * i + 1] as u16)
+}
+
+// Whether event e is listed: not 0, and no later than the latest listed event of its task.
+fn is_listed(records: &[u8], last: &[u16], e: u16) -> bool
+    requires { ⌜ (2 * e ≤ length (now records)) × (length (now last) ≡ tasks) ⌝ }
+    ensures { λ r. ⌜ r ≡ isListed (decodeAll (now (records .entry))) (now (last .entry)) e ⌝ }
+{
+    if e == 0 {
+        return false;
+    }
+    e <= last[recording::task(records, e as usize) as usize]
+}
+
+// Whether event e comes next in its task: its predecessor is the latest listed event there.
+fn is_next(records: &[u8], predecessors: &[u16], last: &[u16], e: u16) -> bool
+    requires { ⌜ (1 ≤ e) × (2 * e ≤ length (now records)) × (length (now records) ≤ 8190)
+        × (length (now predecessors) ≡ 4096) × (length (now last) ≡ tasks)
+        × (getD (now predecessors) e 0 ≡ predecessor (decodeAll (now records)) e) ⌝ }
+    ensures { λ r. ⌜ r ≡ isNext (decodeAll (now (records .entry))) (now (last .entry)) e ⌝ }
+{
+    let at = e as usize;
+    predecessors[at] == last[recording::task(records, at) as usize]
+}
+
+// Whether acquire e finds its lock free and keeps lock order: no acquire of it is listed, or the latest one is
+// earlier and its match is listed.
+fn is_unlocked(records: &[u8], matches: &[u16], last: &[u16], acquires: &[u16], e: u16) -> bool
+    requires { ⌜ (1 ≤ e) × (2 * e ≤ length (now records)) × (length (now records) ≤ 8190)
+        × (length (now matches) ≡ 4096) × (length (now last) ≡ tasks) × (length (now acquires) ≡ locks)
+        × (object (decodeAll (now records)) e < locks)
+        × (getD (now acquires) (object (decodeAll (now records)) e) 0 ≤ length (decodeAll (now records)))
+        × ((f : ℕ) → 1 ≤ f → f ≤ length (decodeAll (now records))
+        → getD (now matches) f 0 ≡ matching (decodeAll (now records)) f) ⌝ }
+    ensures { λ r. ⌜ r ≡ isUnlocked (decodeAll (now (records .entry))) (now (last .entry)) (now (acquires .entry)) e ⌝ }
+{
+    let latest = acquires[recording::object(records, e as usize) as usize];
+    if latest == 0 {
+        return true;
+    }
+    if e <= latest {
+        return false;
+    }
+    is_listed(records, last, matches[latest as usize])
+}
+
+// Whether number e may be listed next: it is an event and comes next in its task; a read's last listed write of
+// its variable is its writer, and an acquire finds its lock free and keeps lock order.
+fn follows(
+    records: &[u8],
+    predecessors: &[u16],
+    writers: &[u16],
+    matches: &[u16],
+    last: &[u16],
+    acquires: &[u16],
+    writes: &[u16],
+    e: u16,
+) -> bool
+    requires { ⌜ (length (now records) ≤ 8190) × (checkEvents (decodeAll (now records)) .refusal ≡ 0)
+        × Checking (decodeAll (now records)) (now predecessors) (now writers) (now matches)
+        × Ready (decodeAll (now records)) (now last) (now acquires) (now writes) ⌝ }
+    ensures { λ r. ⌜ ((before : List ℕ)
+        → Listed (decodeAll (now (records .entry))) before (now (last .entry)) (now (acquires .entry))
+        (now (writes .entry)) → r ≡ mayFollow (decodeAll (now (records .entry))) before e) ⌝ }
+{
+    if e == 0 {
+        return false;
+    }
+    let at = e as usize;
+    if records.len() / 2 < at {
+        return false;
+    }
+    if !is_next(records, predecessors, last, e) {
+        return false;
+    }
+    let op = recording::operation(records, at);
+    if op == 0 {
+        return writes[recording::object(records, at) as usize] == writers[at];
+    }
+    if op != 2 {
+        return true;
+    }
+    is_unlocked(records, matches, last, acquires, e)
+}
+
+// Notes that event e is listed: as the latest of its task, of its lock where it is an acquire, and of its
+// variable where it is a write.
+fn note(records: &[u8], last: &mut [u16], acquires: &mut [u16], writes: &mut [u16], e: u16)
+    requires { ⌜ (1 ≤ e) × (2 * e ≤ length (now records)) × (checkEvents (decodeAll (now records)) .refusal ≡ 0)
+        × Ready (decodeAll (now records)) (now last) (now acquires) (now writes) ⌝ }
+    ensures { λ r. ⌜ ((before : List ℕ)
+        → Listed (decodeAll (now (records .entry))) before (now (last .entry)) (now (acquires .entry))
+        (now (writes .entry)) → T (mayFollow (decodeAll (now (records .entry))) before e)
+        → Listed (decodeAll (now (records .entry))) (e ∷ before) (now (last .exit)) (now (acquires .exit))
+        (now (writes .exit))) ⌝ }
+{
+    let at = e as usize;
+    last[recording::task(records, at) as usize] = e;
+    let op = recording::operation(records, at);
+    let object = recording::object(records, at) as usize;
+    if op == 1 {
+        writes[object] = e;
+        return;
+    }
+    if op == 2 {
+        acquires[object] = e;
+    }
+}
+
+// Whether the schedule is order-keeping: each number may follow those before it. If so, `last` has the latest
+// listed event of each task.
+fn keeps_order(
+    records: &[u8],
+    predecessors: &[u16],
+    writers: &[u16],
+    matches: &[u16],
+    schedule: &[u8],
+    last: &mut [u16],
+) -> bool
+    requires { ⌜ (length (now records) ≤ 8190) × (checkEvents (decodeAll (now records)) .refusal ≡ 0)
+        × Checking (decodeAll (now records)) (now predecessors) (now writers) (now matches)
+        × (now last ≡ replicate tasks 0) ⌝ }
+    ensures { λ r. ⌜ (r ≡ syncPreserving (decodeAll (now (records .entry))) (numbers (now (schedule .entry))))
+        × (r ≡ true → UpTo (decodeAll (now (records .entry))) (numbers (now (schedule .entry))) (now (last .exit))) ⌝ }
+{
+    let mut acquires = [0u16; 64];
+    let mut writes = [0u16; 1024];
+    let mut i = 0;
+    while i < schedule.len() / 2 {
+        let e = number(schedule, i);
+        if !follows(records, predecessors, writers, matches, last, &acquires, &writes, e) {
+            return false;
+        }
+        note(records, last, &mut acquires, &mut writes, e);
+        i = i + 1;
+    }
+    true
+}
+
+// Whether every event of the pattern comes next in its task after what is listed.
+fn leaves_next(records: &[u8], predecessors: &[u16], pattern: &[u8], last: &[u16]) -> bool
+    requires { ⌜ (length (now records) ≤ 8190) × (length (now predecessors) ≡ 4096)
+        × (length (now last) ≡ tasks) × T (all (isEvent (decodeAll (now records))) (numbers (now pattern)))
+        × ((f : ℕ) → 1 ≤ f → f ≤ length (decodeAll (now records))
+        → getD (now predecessors) f 0 ≡ predecessor (decodeAll (now records)) f) ⌝ }
+    ensures { λ r. ⌜ r ≡ all (isNext (decodeAll (now (records .entry))) (now (last .entry)))
+        (numbers (now (pattern .entry))) ⌝ }
+{
+    let mut i = 0;
+    while i < pattern.len() / 2 {
+        if !is_next(records, predecessors, last, number(pattern, i)) {
+            return false;
+        }
+        i = i + 1;
+    }
+    true
+}
+
+// Whether the schedule witnesses the pattern: its length is even, it is order-keeping, and it leaves every event
+// of the pattern next.
+pub fn witnessed(
+    records: &[u8],
+    predecessors: &[u16],
+    writers: &[u16],
+    matches: &[u16],
+    pattern: &[u8],
+    schedule: &[u8],
+) -> bool
+    requires { ⌜ (length (now records) ≤ 8190) × (checkEvents (decodeAll (now records)) .refusal ≡ 0)
+        × Checking (decodeAll (now records)) (now predecessors) (now writers) (now matches)
+        × T (all (isEvent (decodeAll (now records))) (numbers (now pattern))) ⌝ }
+    ensures { λ r. ⌜ r ≡ (isWhole (now (schedule .entry)) && witnesses (decodeAll (now (records .entry)))
+        (numbers (now (schedule .entry))) (numbers (now (pattern .entry)))) ⌝ }
+{
+    if schedule.len() % 2 != 0 {
+        return false;
+    }
+    let mut last = [0u16; 16];
+    if !keeps_order(records, predecessors, writers, matches, schedule, &mut last) {
+        return false;
+    }
+    leaves_next(records, predecessors, pattern, &last)
+}

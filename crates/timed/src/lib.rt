@@ -1,0 +1,70 @@
+// Entries for measuring: the check alone, and the check with the tables of every event filled after it.
+ghost use Prim.Native.Nat.{_<_, _≤_};
+ghost use mathlib.Core.Path.{_≡_};
+ghost use mathlib.Core.Bool.{cond};
+ghost use lib.ListN.{length};
+ghost use Rattle.model.specs.Recording.{decodeAll};
+ghost use Rattle.model.specs.Calls.Questions.{isAccepted};
+ghost use Rattle.model.specs.Calls.Check.{checkEvents, check};
+
+// Checks a recording: its refusal.
+#[no_mangle]
+pub extern "C" fn timed_check(recording: &[u8]) -> u64
+    ensures { λ r. ⌜ r ≡ check (now (recording .entry)) .refusal ⌝ }
+{
+    let checked = recording::check(recording);
+    checked.refusal
+}
+
+// Fills the tables of records whose events are accepted, and compares their entries n: a number to 4 that
+// depends on every table, so that the compiler leaves none out.
+fn compare_entries(records: &[u8], n: usize) -> u64
+    requires { ⌜ (length (now records) ≤ 8190) × (checkEvents (decodeAll (now records)) .refusal ≡ 0)
+        × (n < 4096) ⌝ }
+    ensures { λ r. ⌜ r ≤ 4 ⌝ }
+{
+    let mut operations = [0u8; 4096];
+    let mut tasks = [0u8; 4096];
+    let mut objects = [0u16; 4096];
+    let mut holding = [0u64; 4096];
+    let mut predecessors = [0u16; 4096];
+    let mut writers = [0u16; 4096];
+    let mut matches = [0u16; 4096];
+    relations::fill_tables(
+        records,
+        &mut operations,
+        &mut tasks,
+        &mut objects,
+        &mut holding,
+        &mut predecessors,
+        &mut writers,
+        &mut matches,
+    );
+    if operations[n] == tasks[n] {
+        return 1;
+    }
+    if objects[n] == matches[n] {
+        return 2;
+    }
+    if predecessors[n] == writers[n] {
+        return 3;
+    }
+    if holding[n] == 0 {
+        return 4;
+    }
+    0
+}
+
+// Checks a recording, and fills the tables of one that is accepted: its refusal, or else that number.
+#[no_mangle]
+pub extern "C" fn timed_tables(recording: &[u8]) -> u64
+    ensures { λ r. ⌜ cond (isAccepted (check (now (recording .entry)))) 0 r
+        ≡ check (now (recording .entry)) .refusal ⌝ }
+{
+    let checked = recording::check(recording);
+    if checked.refusal != 0 {
+        return checked.refusal;
+    }
+    let n = recording::event_count(recording);
+    compare_entries(&recording[2..], n)
+}
