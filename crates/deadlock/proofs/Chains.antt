@@ -108,8 +108,8 @@ module _ (σ : Trace) (p : List ℕ) where
   lends-odd d = rw (ne-eqb (length p % 2) 0 d)
 
   -- Nor are fewer than two numbers or more than sixteen.
-  pub lends-size : (length p < 4) ⊎ (32 < length p) → false ≡ (isWhole p && isPattern σ (numbers p))
-  lends-size h =
+  pub lends-size : length p % 2 ≡ 0 → (length p < 4) ⊎ (32 < length p) → false ≡ (isWhole p && isPattern σ (numbers p))
+  lends-size whole h =
       rw (is-false (isPattern σ (numbers p)) (not-T (isPattern σ (numbers p)) other)) (sym (and-false (isWhole p)))
     where
       other : T (isPattern σ (numbers p)) → ⊥

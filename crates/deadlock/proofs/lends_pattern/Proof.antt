@@ -21,10 +21,10 @@ returns : tie.Need-returns
 returns c = lends-odd (decodeAll (c .before .before .before .before .args .records .now)) (c .before .before .before .before .args .pattern .now) (c .if1 .taken)
 
 returns-2 : tie.Need-returns-2
-returns-2 c = lends-size (decodeAll (c .before .before .before .before .before .args .records .now)) (c .before .before .before .before .before .args .pattern .now) (inl (c .if2 .taken))
+returns-2 c = lends-size (decodeAll (c .before .before .before .before .before .args .records .now)) (c .before .before .before .before .before .args .pattern .now) (c .before .if1 .left) (inl (c .if2 .taken))
 
 returns-3 : tie.Need-returns-3
-returns-3 c = lends-size (decodeAll (c .before .before .before .before .before .before .args .records .now)) (c .before .before .before .before .before .before .args .pattern .now) (inr (c .if3 .taken))
+returns-3 c = lends-size (decodeAll (c .before .before .before .before .before .before .args .records .now)) (c .before .before .before .before .before .before .args .pattern .now) (c .before .before .if1 .left) (inr (c .if3 .taken))
 
 number-requires : tie.Need-number-requires
 number-requires c κs = search needs
