@@ -3,3 +3,4 @@ pub mod Visits
 pub mod Turning
 pub mod Totals
 pub mod Rounds
+pub mod Tabled

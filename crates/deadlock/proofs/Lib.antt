@@ -1,2 +1,4 @@
 -- Laws of chains, of a pattern's numbers and of verdicts; each function's proof is in a folder of its own.
 pub mod Chains
+pub mod Verdicts
+pub mod Answers

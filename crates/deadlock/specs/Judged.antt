@@ -3,11 +3,13 @@ use Prim.Native.Nat.{ℕ, _≤_}
 use mathlib.Core.Path.{_≡_}
 use mathlib.Core.Bool.{cond, _&&_}
 use mathlib.Core.List.{List}
+use lib.Dec.{leb}
 use lib.ListN.{length, getD}
 use Rattle.model.specs.Bytes.{numbers, isWhole}
-use Rattle.model.specs.Trace.{Trace}
+use Rattle.model.specs.Trace.{Trace, tasks, task}
 use Rattle.model.specs.Relations.{held}
-use Rattle.model.specs.Pattern.{isPattern, isDeadlock}
+use Rattle.model.specs.EventSet.{has}
+use Rattle.model.specs.Pattern.{isPattern, closureBefore, isDeadlock}
 
 -- The table of held locks, with an entry for each event of the longest recording.
 pub record Holding (σ : Trace) (holding : List ℕ) : Type 0 where
@@ -17,3 +19,8 @@ pub record Holding (σ : Trace) (holding : List ℕ) : Type 0 where
 -- Of the bytes of a pattern: 0 for none (question 10 is answered "no"), 1 for the verdict "not", 2 for deadlock.
 unfoldable pub judged : Trace → List ℕ → ℕ
 judged σ p = cond (isWhole p && isPattern σ (numbers p)) (cond (isDeadlock σ (numbers p)) 2 1) 0
+
+-- The frontier of the closure of the predecessors of the events of p.
+pub record Reached (σ : Trace) (p front : List ℕ) : Type 0 where
+  pub long : length front ≡ tasks
+  pub members : (e : ℕ) → 1 ≤ e → e ≤ length σ → has (closureBefore σ p) e ≡ leb e (getD front (task σ e) 0)

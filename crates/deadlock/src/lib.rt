@@ -3,16 +3,20 @@
 ghost use Prim.Native.Nat.{_+_, _*_, _/_, _<_, _≤_};
 ghost use mathlib.Core.Path.{_≡_};
 ghost use mathlib.Core.Bool.{not, _&&_};
+ghost use mathlib.Core.List.{[]};
 ghost use lib.Dec.{T, leb};
-ghost use lib.ListN.{length, getD, drop};
+ghost use lib.ListN.{length, getD, drop, replicate};
 ghost use Rattle.model.specs.Lists.{all, hasBit};
 ghost use Rattle.model.specs.Bytes.{numbers, isWhole};
 ghost use Rattle.model.specs.Trace.{tasks, task, isEvent, isAcquire};
 ghost use Rattle.model.specs.Recording.{decodeAll};
 ghost use Rattle.model.specs.Pattern.{isPattern};
 ghost use Rattle.model.specs.Calls.Check.{checkEvents};
+ghost use Rattle.model.specs.Calls.Verdict.{verdict};
 ghost use Rattle.laws.specs.Chain.{signature, start, fits, completing, chainOf};
-ghost use Rattle.deadlock.specs.Judged.{Holding};
+ghost use Rattle.laws.specs.Frontier.{Before};
+ghost use Rattle.closure.specs.Visit.{Needed};
+ghost use Rattle.deadlock.specs.Judged.{Holding, judged, Reached};
 
 // Lock l is in the mask.
 pub fn in_mask(mask: u64, l: u64) -> bool
@@ -109,4 +113,126 @@ pub fn lends_pattern(records: &[u8], holding: &[u64], pattern: &[u8]) -> bool
         return false;
     }
     completes(records, holding, pattern, a)
+}
+
+// Advances the frontier, event by event of the pattern, to that of the closure of their predecessors.
+fn reach(
+    records: &[u8],
+    predecessors: &[u16],
+    writers: &[u16],
+    matches: &[u16],
+    pattern: &[u8],
+    front: &mut [u16],
+    want: &mut [u16],
+    latest: &mut [u16],
+)
+    requires { ⌜ (length (now records) ≤ 8190) × (checkEvents (decodeAll (now records)) .refusal ≡ 0)
+        × Needed (decodeAll (now records)) (now predecessors) (now writers) (now matches)
+        × T (all (isEvent (decodeAll (now records))) (numbers (now pattern)))
+        × Before (decodeAll (now records)) [] (now front) (now latest) × (now want ≡ now front) ⌝ }
+    ensures { λ r. ⌜ Before (decodeAll (now (records .entry))) (numbers (now (pattern .entry))) (now (front .exit))
+        (now (latest .exit)) ⌝ }
+{
+    let mut i = 0;
+    while i < pattern.len() / 2 {
+        let e = recording::number(pattern, i) as usize;
+        closure::extend(records, predecessors, writers, matches, front, want, latest, e);
+        i = i + 1;
+    }
+}
+
+// No event of the pattern is in the set of the frontier.
+fn avoids(records: &[u8], pattern: &[u8], front: &[u16]) -> bool
+    requires { ⌜ T (all (isEvent (decodeAll (now records))) (numbers (now pattern))) × (length (now front) ≡ tasks) ⌝ }
+    ensures { λ r. ⌜ r ≡ all (λ e. not (leb e (getD (now (front .entry)) (task (decodeAll (now (records .entry))) e) 0)))
+        (numbers (now (pattern .entry))) ⌝ }
+{
+    let mut i = 0;
+    while i < pattern.len() / 2 {
+        if closure::contains(records, front, recording::number(pattern, i) as usize) {
+            return false;
+        }
+        i = i + 1;
+    }
+    true
+}
+
+// Decides the lent bytes: 0 where they are no pattern, 1 for "not", 2 for deadlock. Of a pattern the frontier
+// becomes that of the closure of its events' predecessors.
+pub fn decide(
+    records: &[u8],
+    holding: &[u64],
+    predecessors: &[u16],
+    writers: &[u16],
+    matches: &[u16],
+    pattern: &[u8],
+    front: &mut [u16],
+) -> u64
+    requires { ⌜ (length (now records) ≤ 8190) × (checkEvents (decodeAll (now records)) .refusal ≡ 0)
+        × Holding (decodeAll (now records)) (now holding)
+        × Needed (decodeAll (now records)) (now predecessors) (now writers) (now matches)
+        × (now front ≡ replicate 16 0) ⌝ }
+    ensures { λ r. ⌜ (r ≡ judged (decodeAll (now (records .entry))) (now (pattern .entry)))
+        × (r ≡ 2 → Reached (decodeAll (now (records .entry))) (numbers (now (pattern .entry))) (now (front .exit))) ⌝ }
+{
+    if !lends_pattern(records, holding, pattern) {
+        return 0;
+    }
+    let mut want = [0u16; 16];
+    let mut latest = [0u16; 64];
+    reach(records, predecessors, writers, matches, pattern, front, &mut want, &mut latest);
+    if avoids(records, pattern, front) {
+        return 2;
+    }
+    1
+}
+
+// Decides the lent bytes with tables of its own.
+fn judge(records: &[u8], pattern: &[u8], front: &mut [u16]) -> u64
+    requires { ⌜ (length (now records) ≤ 8190) × (checkEvents (decodeAll (now records)) .refusal ≡ 0)
+        × (now front ≡ replicate 16 0) ⌝ }
+    ensures { λ r. ⌜ (r ≡ judged (decodeAll (now (records .entry))) (now (pattern .entry)))
+        × (r ≡ 2 → Reached (decodeAll (now (records .entry))) (numbers (now (pattern .entry))) (now (front .exit))) ⌝ }
+{
+    let mut operations = [0u8; 4096];
+    let mut tasks = [0u8; 4096];
+    let mut objects = [0u16; 4096];
+    let mut holding = [0u64; 4096];
+    let mut predecessors = [0u16; 4096];
+    let mut writers = [0u16; 4096];
+    let mut matches = [0u16; 4096];
+    relations::fill_tables(
+        records, &mut operations, &mut tasks, &mut objects, &mut holding, &mut predecessors, &mut writers,
+        &mut matches,
+    );
+    decide(records, &holding, &predecessors, &writers, &matches, pattern, front)
+}
+
+// The verdict of a lent pattern: question 10, then whether the closure of its predecessors has none of its
+// events.
+pub fn verdict(recording: &[u8], pattern: &[u8]) -> model::Verdict
+    ensures { λ r. ⌜ r ≡ verdict (now (recording .entry)) (now (pattern .entry)) ⌝ }
+{
+    let checked = recording::check(recording);
+    if checked.refusal != 0 {
+        return model::Verdict {
+            refusal: checked.refusal,
+            event: checked.event,
+            deadlock: false,
+        };
+    }
+    let mut front = [0u16; 16];
+    let decided = judge(&recording[2..], pattern, &mut front);
+    if decided == 0 {
+        return model::Verdict {
+            refusal: 10,
+            event: 0,
+            deadlock: false,
+        };
+    }
+    model::Verdict {
+        refusal: 0,
+        event: 0,
+        deadlock: decided == 2,
+    }
 }

@@ -227,6 +227,7 @@ pub noted-end : (b : List ℕ) (e : ℕ)
     → e ≤ length b / 2 + 1 → length b / 2 < e
     → Tables (decodeAll b) operations tasks objects holding predecessors writers matches
 noted-end b e {matches = matches} z h k = record {
+  long = z .long;
   operation-at = λ f i j. z .operation-filled .at f i (omega (arith, decodeAll-length b));
   task-at = λ f i j. z .task-filled .at f i (omega (arith, decodeAll-length b));
   object-at = λ f i j. z .object-filled .at f i (omega (arith, decodeAll-length b));

@@ -17,17 +17,6 @@ tableLength = 4096
 abbrev pub operation : Trace → ℕ → ℕ
 operation σ e = at σ e .op
 
--- Each table has its relation at the index of each event.
-pub record Tables (σ : Trace) (operations tasks objects holding predecessors writers matches : List ℕ)
-    : Type 0 where
-  pub operation-at : (e : ℕ) → 1 ≤ e → e ≤ length σ → getD operations e 0 ≡ operation σ e
-  pub task-at : (e : ℕ) → 1 ≤ e → e ≤ length σ → getD tasks e 0 ≡ task σ e
-  pub object-at : (e : ℕ) → 1 ≤ e → e ≤ length σ → getD objects e 0 ≡ object σ e
-  pub held-at : (e : ℕ) → 1 ≤ e → e ≤ length σ → getD holding e 0 ≡ held σ e
-  pub predecessor-at : (e : ℕ) → 1 ≤ e → e ≤ length σ → getD predecessors e 0 ≡ predecessor σ e
-  pub writer-at : (e : ℕ) → 1 ≤ e → e ≤ length σ → getD writers e 0 ≡ writer σ e
-  pub matching-at : (e : ℕ) → 1 ≤ e → e ≤ length σ → getD matches e 0 ≡ matching σ e
-
 -- Each table has an entry for each event.
 pub record Long (operations tasks objects holding predecessors writers matches : List ℕ) : Type 0 where
   pub operation-long : length operations ≡ tableLength
@@ -37,6 +26,18 @@ pub record Long (operations tasks objects holding predecessors writers matches :
   pub predecessor-long : length predecessors ≡ tableLength
   pub writer-long : length writers ≡ tableLength
   pub matching-long : length matches ≡ tableLength
+
+-- Each table has its relation at the index of each event.
+pub record Tables (σ : Trace) (operations tasks objects holding predecessors writers matches : List ℕ)
+    : Type 0 where
+  pub long : Long operations tasks objects holding predecessors writers matches
+  pub operation-at : (e : ℕ) → 1 ≤ e → e ≤ length σ → getD operations e 0 ≡ operation σ e
+  pub task-at : (e : ℕ) → 1 ≤ e → e ≤ length σ → getD tasks e 0 ≡ task σ e
+  pub object-at : (e : ℕ) → 1 ≤ e → e ≤ length σ → getD objects e 0 ≡ object σ e
+  pub held-at : (e : ℕ) → 1 ≤ e → e ≤ length σ → getD holding e 0 ≡ held σ e
+  pub predecessor-at : (e : ℕ) → 1 ≤ e → e ≤ length σ → getD predecessors e 0 ≡ predecessor σ e
+  pub writer-at : (e : ℕ) → 1 ≤ e → e ≤ length σ → getD writers e 0 ≡ writer σ e
+  pub matching-at : (e : ℕ) → 1 ≤ e → e ≤ length σ → getD matches e 0 ≡ matching σ e
 
 -- The tables right before event e is noted: each has its relation for the earlier events, and the working
 -- tables hold what noting event e asks for.

@@ -1,0 +1,73 @@
+-- The numbers of a pattern one by one: that each is an event, the frontier of their predecessors, and the test
+-- of each against it. Assumes nothing.
+use Prim.Native.Nat.{ℕ, suc, _+_, _*_, _/_, _≤_, _<_}
+use mathlib.Core.Path.{_≡_, refl, sym, ap, _∙_}
+use mathlib.Core.Bool.{Bool, true, false, cond, not, _&&_}
+use mathlib.Core.List.{List, [], _∷_, _++_, List·Memᴰ}
+use native.Mathlib.Omega.{arith}
+use native.Mathlib.Numerals.{add-one}
+use lib.Dec.{T, leb}
+use lib.ListN.{length, getD, take, drop, drop-of-length-le, take-append-drop}
+use lib.Seq.{drop-cons, take-suc, take-all}
+use Rattle.model.specs.Lists.{all}
+use Rattle.model.specs.Bytes.{numbers, isWhole}
+use Rattle.model.specs.Pattern.{isPattern}
+use Rattle.model.specs.Trace.{Trace, task, isEvent}
+use Rattle.model.specs.Recording.{decodeAll}
+use Rattle.model.specs.Relations.{predecessor}
+use Rattle.laws.specs.Frontier.{raised, Advanced, Before}
+use Rattle.laws.proofs.Lists.{all-iff, all-at}
+use Rattle.laws.proofs.Bytes.{numbers-length}
+use Rattle.laws.proofs.Trace.{isEvent-iff, decodeAll-length}
+use Rattle.laws.proofs.WellFormed.{WellFormed}
+use Rattle.laws.proofs.Before.{before-extend, before-deadlock}
+use Rattle.laws.proofs.Tests.{and-r}
+use Rattle.laws.proofs.Pattern.{pattern-events}
+use Rattle.deadlock.specs.Judged.{judged, Reached}
+
+-- A number of a list of events is one, and its record is there.
+pub number-event : (b p : List ℕ) (i e : ℕ) → T (all (isEvent (decodeAll b)) (numbers p)) → i < length p / 2
+    → e ≡ getD (numbers p) i 0 → (1 ≤ e) × (2 * e ≤ length b)
+number-event b p i e t h q =
+    let event = isEvent-iff (decodeAll b) (getD (numbers p) i 0) .0
+        (all-at 0 (isEvent (decodeAll b)) (numbers p) i t (omega (arith, numbers-length p))) in
+    let size = decodeAll-length b in
+    omega arith
+
+module _ (σ : Trace) (ns : List ℕ) (i : ℕ) (inside : i < length ns) where
+  -- One event more of the frontier's list.
+  pub before-next : WellFormed σ → (front latest front′ latest′ : List ℕ) (e : ℕ) → e ≡ getD ns i 0
+      → Before σ (take i ns) front latest → 1 ≤ e → e ≤ length σ
+      → Advanced σ (raised front (task σ e) (predecessor σ e)) front′ latest′
+      → Before σ (take (i + 1) ns) front′ latest′
+  before-next ok front latest front′ latest′ e q z h k a =
+      rw (add-one i, take-suc ns i 0 inside, ← q) (before-extend σ ok (take i ns) front latest e front′ latest′ z h k a)
+
+  -- One number more is asked.
+  pub all-next : (f : ℕ → Bool) → all f (drop i ns) ≡ (f (getD ns i 0) && all f (drop (i + 1) ns))
+  all-next f = rw (add-one i) (ap (all f) (drop-cons ns i 0 inside))
+
+-- ---- what is decided
+
+module _ (σ : Trace) (p : List ℕ) where
+  -- Bytes that are no pattern.
+  pub judged-none : (isWhole p && isPattern σ (numbers p)) ≡ false → 0 ≡ judged σ p
+  unfolding judged
+  judged-none n = rw n
+
+  module _ (y : (isWhole p && isPattern σ (numbers p)) ≡ true) where
+    -- The numbers of a pattern are events.
+    pub judged-events : T (all (isEvent σ) (numbers p))
+    judged-events =
+        let t : T (isWhole p && isPattern σ (numbers p)) = rw y tt in
+        pattern-events σ (numbers p) (and-r (isWhole p) _ t)
+
+    -- The frontier of its predecessors decides.
+    pub judged-verdict : (front latest : List ℕ) (v : Bool) → Before σ (numbers p) front latest
+        → v ≡ all (λ e. not (leb e (getD front (task σ e) 0))) (numbers p) → cond v 2 1 ≡ judged σ p
+    unfolding judged
+    judged-verdict front latest v z q = rw (y, q, before-deadlock σ (numbers p) front latest z judged-events)
+
+  -- The frontier is that of the closure.
+  pub judged-reached : (front latest : List ℕ) → Before σ (numbers p) front latest → Reached σ (numbers p) front
+  judged-reached front latest z = record { long = z .settled .front-ok .long; members = z .members }
