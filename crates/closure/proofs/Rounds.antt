@@ -24,7 +24,8 @@ pub record Round (σ : Trace) (given front want latest : List ℕ) (t : ℕ) : T
 
 module _ (σ : Trace) where
   -- At the beginning it is not known of any task.
-  pub round-begin : (front want latest : List ℕ) → Settled σ front want latest → Round σ want front want latest 0
+  pub round-begin : (front want latest : List ℕ) → Settled σ front want latest → Round σ want front want
+      latest 0
   round-begin front want latest z = record {
     settled = z;
     entailed = entails-refl σ want;

@@ -44,7 +44,8 @@ module _ (σ : Trace) where
 
       here : getD want t 0 ≤ getD (set front t (getD want t 0)) (task σ (getD want t 0)) 0
       here =
-          rw (own .1, getD-set-same front t (getD want t 0) 0 (omega (arith, z .front-ok .long))) (omega arith)
+          rw (own .1, getD-set-same front t (getD want t 0) 0 (omega (arith, z .front-ok .long)))
+          (omega arith)
 
   -- The visited event is followed by its predecessor.
   pub turning-step : WellFormed σ → (front given want latest : List ℕ) (t old f : ℕ)

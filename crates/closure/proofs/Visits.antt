@@ -1,4 +1,5 @@
--- What visiting an event leaves, by its operation and the latest acquire of its lock, and how the frontier goes
+-- What visiting an event leaves, by its operation and the latest acquire of its lock, and how the frontier
+-- goes
 -- on then. Assumes nothing.
 use Prim.Native.Nat.{ℕ, _*_, _≤_, _<_}
 use mathlib.Core.Path.{_≡_, refl, sym, _∙_}
@@ -119,13 +120,15 @@ pub record Visiting (σ : Trace) (front want want′ latest′ : List ℕ) (t ol
   pub grows : (u : ℕ) → getD want u 0 ≤ getD want′ u 0
 
 module _ (σ : Trace) (ok : WellFormed σ) (front want latest : List ℕ) (t old f : ℕ)
-    (z : Advancing σ front want latest t old f) (is-task : task σ f ≡ t) (at-f : Behind σ front f) (left : old < f) where
+    (z : Advancing σ front want latest t old f) (is-task : task σ f ≡ t) (at-f : Behind σ front f)
+    (left : old < f) where
   small : (u : ℕ) → u < tasks → u < length want
   small u h = omega (arith, z .want-ok .long)
 
   kept : writer σ f ≡ 0 → isAcquire σ f ≡ false → Visiting σ front want want latest t old f
   kept n a = record {
-    going = visit-other σ ok front want latest t old f z is-task at-f left want (z .want-ok) (λ u. omega arith)
+    going = visit-other σ ok front want latest t old f z is-task at-f left want (z .want-ok)
+        (λ u. omega arith)
         (λ d. absurd (d n)) a;
     entailed = λ given e. e;
     grows = λ u. omega arith;
@@ -170,7 +173,8 @@ module _ (σ : Trace) (ok : WellFormed σ) (front want latest : List ℕ) (t old
     first : getD latest (object σ f) 0 ≡ 0
         → Visiting σ front want want (set latest (object σ f) f) t old f
     first n = record {
-      going = visit-later σ ok front want latest t old f z is-task at-f left want (z .want-ok) (λ u. omega arith)
+      going = visit-later σ ok front want latest t old f z is-task at-f left want (z .want-ok)
+          (λ u. omega arith)
           unread acquire lock (omega (arith, at-f .event)) (λ d. absurd (d n));
       entailed = λ given e. e;
       grows = λ u. omega arith;
@@ -178,7 +182,8 @@ module _ (σ : Trace) (ok : WellFormed σ) (front want latest : List ℕ) (t old
 
     module _ (some : getD latest (object σ f) 0 ≢ 0) where
       at-top : Visited σ front t old f (getD latest (object σ f) 0)
-          × T (isAcquire σ (getD latest (object σ f) 0)) × (object σ (getD latest (object σ f) 0) ≡ object σ f)
+          × T (isAcquire σ (getD latest (object σ f) 0)) ×
+          (object σ (getD latest (object σ f) 0) ≡ object σ f)
       at-top = z .latest-visited (object σ f) lock some
 
       event : (1 ≤ getD latest (object σ f) 0) × (getD latest (object σ f) 0 ≤ length σ)
@@ -191,7 +196,8 @@ module _ (σ : Trace) (ok : WellFormed σ) (front want latest : List ℕ) (t old
       later b = record {
         going = visit-later σ ok front want latest t old f z is-task at-f left _ (more u m h k q)
             (growing u m h k q) unread acquire lock b (λ _. raised-reaches want u m (small u h));
-        entailed = λ given e. match-entailed σ ok front want latest t old f z given e x f again (at-top .0 .behind)
+        entailed = λ given e. match-entailed σ ok front want latest t old f z given e x f again
+            (at-top .0 .behind)
             at-f u (small u h);
         grows = growing u m h k q;
       }
@@ -282,7 +288,8 @@ module _ (σ : Trace) (ok : WellFormed σ) (front want latest : List ℕ) (t old
           ⊎-elim (λ q. q) (λ w. absurd (d (eqb-true (at σ f .op) 0
           (sym (isRead-op σ f refl) ∙ is-true (isRead σ f) (writer-read σ f w))))) (equal? (writer σ f) 0)
 
-      read : at σ f .op ≡ 0 → Visiting σ front want (wantedWith σ want latest f) (latestWith σ latest f) t old f
+      read : at σ f .op ≡ 0 → Visiting σ front want (wantedWith σ want latest f) (latestWith σ latest f) t
+          old f
       read a =
           let c = no-acquire (omega arith) in
           ⊎-elim
@@ -299,7 +306,8 @@ module _ (σ : Trace) (ok : WellFormed σ) (front want latest : List ℕ) (t old
           → Visiting σ front want (wantedWith σ want latest f) (latestWith σ latest f) t old f
       acquired d a =
           ⊎-elim
-          (λ q. leaves want _ (acquire-first σ f (at σ f .op) refl want latest a (object σ f) refl q (at-f .event .0))
+          (λ q. leaves want _ (acquire-first σ f (at σ f .op) refl want latest a (object σ f) refl q
+          (at-f .event .0))
           (first acquire (unread d) q))
           (λ x. ⊎-elim
           (λ b. leaves _ latest (acquire-earlier σ f (at σ f .op) refl want latest a (object σ f) refl
@@ -314,7 +322,8 @@ module _ (σ : Trace) (ok : WellFormed σ) (front want latest : List ℕ) (t old
 
 -- ---- what a visit reads
 
-module _ (b : List ℕ) (accepted : checkEvents (decodeAll b) .refusal ≡ 0) (f : ℕ) (inside : (1 ≤ f) × (2 * f ≤ length b)) where
+module _ (b : List ℕ) (accepted : checkEvents (decodeAll b) .refusal ≡ 0) (f : ℕ)
+    (inside : (1 ≤ f) × (2 * f ≤ length b)) where
   -- The event is one of the records.
   pub event-in : (1 ≤ f) × (f ≤ length (decodeAll b))
   event-in = omega (arith, inside, decodeAll-length b)

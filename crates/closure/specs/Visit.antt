@@ -33,7 +33,8 @@ unfoldable pub latestWith : Trace → List ℕ → ℕ → List ℕ
 latestWith σ latest f =
     cond (isAcquire σ f && ltb (getD latest (object σ f) 0) f) (set latest (object σ f) f) latest
 
--- The wanted events with what event f needs: the writer of a read; of an acquire and the latest one of its lock,
+-- The wanted events with what event f needs: the writer of a read; of an acquire and the latest one of its
+-- lock,
 -- the match of the earlier one.
 unfoldable pub wantedWith : Trace → List ℕ → List ℕ → ℕ → List ℕ
 wantedWith σ want latest f =

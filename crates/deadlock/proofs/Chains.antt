@@ -1,9 +1,9 @@
 -- When an event fits a chain, by what code reads of it, and when numbers complete one. Assumes nothing.
-use Prim.Native.Nat.{ℕ, suc, _+_, _*_, _/_, _%_, _^_, _≤_, _<_}
+use Prim.Native.Nat.{ℕ, _+_, _%_, _^_, _≤_, _<_}
 use mathlib.Core.Path.{_≡_, refl, sym, ap, _∙_}
 use mathlib.Core.Logic.{_⊎_, ⊎-elim, _≢_}
-use mathlib.Core.Bool.{Bool, true, false, not, _&&_, and-false, true≢false}
-use mathlib.Core.List.{List, [], _∷_}
+use mathlib.Core.Bool.{Bool, true, false, _&&_, and-false, true≢false}
+use mathlib.Core.List.{List, _∷_}
 use native.Mathlib.Omega.{arith}
 use native.Mathlib.Numerals.{add-one}
 use lib.Bits.{bitAnd, bitOr}
@@ -16,7 +16,7 @@ use Rattle.model.specs.Bytes.{numbers, isWhole}
 use Rattle.model.specs.Pattern.{isPattern}
 use Rattle.model.specs.Trace.{Trace, at, task, object, isEvent, isAcquire}
 use Rattle.model.specs.Relations.{held}
-use Rattle.laws.specs.Chain.{Chain, signature, start, add, fits, closes, completing, chainOf}
+use Rattle.laws.specs.Chain.{Chain, signature, start, add, fits, completing, chainOf}
 use Rattle.laws.proofs.Tests.{parts, is-true, is-false, tests}
 use Rattle.laws.proofs.Bytes.{numbers-length}
 use Rattle.laws.proofs.Pattern.{isPattern-iff}
@@ -51,9 +51,11 @@ module _ (σ : Trace) (ns : List ℕ) (a last tasks guards i : ℕ) (inside : i 
   -- What is left to ask of the numbers from place i on.
   next : (c : Chain) → completing σ c (drop i ns)
       ≡ (isEvent σ (getD ns i 0) && (ltb (c .first) (getD ns i 0)
-      && (fits (signature σ) c (getD ns i 0) && completing σ (add (signature σ) c (getD ns i 0)) (drop (i + 1) ns))))
+      && (fits (signature σ) c (getD ns i 0) && completing σ (add (signature σ) c (getD ns i 0))
+      (drop (i + 1) ns))))
   next c =
-      ap (completing σ c) (drop-cons ns i 0 inside ∙ ap (λ (n : ℕ). getD ns i 0 ∷ drop n ns) (sym (add-one i)))
+      ap (completing σ c) (drop-cons ns i 0 inside ∙ ap (λ (n : ℕ). getD ns i 0 ∷ drop n ns)
+      (sym (add-one i)))
       ∙ completing-cons σ c (getD ns i 0) (drop (i + 1) ns)
 
   -- A number that is no later event than the first completes nothing.
@@ -77,7 +79,8 @@ module _ (σ : Trace) (ns : List ℕ) (a last tasks guards i : ℕ) (inside : i 
   pub completing-fit : (e t g : ℕ) → e ≡ getD ns i 0 → isEvent σ e ≡ true → a < e
       → fits (signature σ) (chainOf 0 last tasks guards) e ≡ true
       → t ≡ bitOr tasks (2 ^ task σ e) → g ≡ bitOr guards (held σ e)
-      → completing σ (chainOf a e t g) (drop (i + 1) ns) ≡ completing σ (chainOf a last tasks guards) (drop i ns)
+      → completing σ (chainOf a e t g) (drop (i + 1) ns) ≡ completing σ (chainOf a last tasks guards)
+      (drop i ns)
   completing-fit e t g q y h f r s =
       rw (r, s, q)
       (sym (next (chainOf a last tasks guards)
@@ -108,14 +111,17 @@ module _ (σ : Trace) (p : List ℕ) where
   lends-odd d = rw (ne-eqb (length p % 2) 0 d)
 
   -- Nor are fewer than two numbers or more than sixteen.
-  pub lends-size : length p % 2 ≡ 0 → (length p < 4) ⊎ (32 < length p) → false ≡ (isWhole p && isPattern σ (numbers p))
+  pub lends-size : length p % 2 ≡ 0 → (length p < 4) ⊎ (32 < length p) → false ≡
+      (isWhole p && isPattern σ (numbers p))
   lends-size whole h =
-      rw (is-false (isPattern σ (numbers p)) (not-T (isPattern σ (numbers p)) other)) (sym (and-false (isWhole p)))
+      rw (is-false (isPattern σ (numbers p)) (not-T (isPattern σ (numbers p)) other))
+      (sym (and-false (isWhole p)))
     where
       other : T (isPattern σ (numbers p)) → ⊥
       other t =
           let z = isPattern-iff σ (numbers p) .0 t in
-          ⊎-elim (λ a. omega (tests, z .least, numbers-length p)) (λ a. omega (tests, z .most, numbers-length p)) h
+          ⊎-elim (λ a. omega (tests, z .least, numbers-length p))
+          (λ a. omega (tests, z .most, numbers-length p)) h
 
   module _ (whole : length p % 2 ≡ 0) (least : 4 ≤ length p) (most : length p ≤ 32) where
     -- The first number, and what the others must complete.
@@ -132,7 +138,8 @@ module _ (σ : Trace) (p : List ℕ) where
     -- A first number that is no acquire.
     pub lends-first : (isEvent σ (getD (numbers p) 0 0) && isAcquire σ (getD (numbers p) 0 0)) ≡ false
         → false ≡ (isWhole p && isPattern σ (numbers p))
-    lends-first n = sym (lends-is ∙ drops (isEvent σ (getD (numbers p) 0 0)) (isAcquire σ (getD (numbers p) 0 0)) _ n)
+    lends-first n = sym (lends-is ∙ drops (isEvent σ (getD (numbers p) 0 0))
+        (isAcquire σ (getD (numbers p) 0 0)) _ n)
       where
         drops : (x y z : Bool) → (x && y) ≡ false → (x && (y && z)) ≡ false
         drops true true z h = absurd (true≢false h)

@@ -2,3 +2,4 @@
 pub mod Chains
 pub mod Verdicts
 pub mod Answers
+pub mod Written

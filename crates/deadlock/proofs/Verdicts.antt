@@ -1,14 +1,15 @@
--- The numbers of a pattern one by one: that each is an event, the frontier of their predecessors, and the test
+-- The numbers of a pattern one by one: that each is an event, the frontier of their predecessors, and the
+-- test
 -- of each against it. Assumes nothing.
-use Prim.Native.Nat.{ℕ, suc, _+_, _*_, _/_, _≤_, _<_}
-use mathlib.Core.Path.{_≡_, refl, sym, ap, _∙_}
+use Prim.Native.Nat.{ℕ, _+_, _*_, _/_, _≤_, _<_}
+use mathlib.Core.Path.{_≡_, ap}
 use mathlib.Core.Bool.{Bool, true, false, cond, not, _&&_}
-use mathlib.Core.List.{List, [], _∷_, _++_, List·Memᴰ}
+use mathlib.Core.List.{List}
 use native.Mathlib.Omega.{arith}
 use native.Mathlib.Numerals.{add-one}
 use lib.Dec.{T, leb}
-use lib.ListN.{length, getD, take, drop, drop-of-length-le, take-append-drop}
-use lib.Seq.{drop-cons, take-suc, take-all}
+use lib.ListN.{length, getD, take, drop}
+use lib.Seq.{drop-cons, take-suc}
 use Rattle.model.specs.Lists.{all}
 use Rattle.model.specs.Bytes.{numbers, isWhole}
 use Rattle.model.specs.Pattern.{isPattern}
@@ -16,7 +17,7 @@ use Rattle.model.specs.Trace.{Trace, task, isEvent}
 use Rattle.model.specs.Recording.{decodeAll}
 use Rattle.model.specs.Relations.{predecessor}
 use Rattle.laws.specs.Frontier.{raised, Advanced, Before}
-use Rattle.laws.proofs.Lists.{all-iff, all-at}
+use Rattle.laws.proofs.Lists.{all-at}
 use Rattle.laws.proofs.Bytes.{numbers-length}
 use Rattle.laws.proofs.Trace.{isEvent-iff, decodeAll-length}
 use Rattle.laws.proofs.WellFormed.{WellFormed}
@@ -30,7 +31,7 @@ pub number-event : (b p : List ℕ) (i e : ℕ) → T (all (isEvent (decodeAll b
     → e ≡ getD (numbers p) i 0 → (1 ≤ e) × (2 * e ≤ length b)
 number-event b p i e t h q =
     let event = isEvent-iff (decodeAll b) (getD (numbers p) i 0) .0
-        (all-at 0 (isEvent (decodeAll b)) (numbers p) i t (omega (arith, numbers-length p))) in
+    (all-at 0 (isEvent (decodeAll b)) (numbers p) i t (omega (arith, numbers-length p))) in
     let size = decodeAll-length b in
     omega arith
 
@@ -41,7 +42,8 @@ module _ (σ : Trace) (ns : List ℕ) (i : ℕ) (inside : i < length ns) where
       → Advanced σ (raised front (task σ e) (predecessor σ e)) front′ latest′
       → Before σ (take (i + 1) ns) front′ latest′
   before-next ok front latest front′ latest′ e q z h k a =
-      rw (add-one i, take-suc ns i 0 inside, ← q) (before-extend σ ok (take i ns) front latest e front′ latest′ z h k a)
+      rw (add-one i, take-suc ns i 0 inside, ← q) (before-extend σ ok (take i ns) front latest e front′
+      latest′ z h k a)
 
   -- One number more is asked.
   pub all-next : (f : ℕ → Bool) → all f (drop i ns) ≡ (f (getD ns i 0) && all f (drop (i + 1) ns))
@@ -69,5 +71,6 @@ module _ (σ : Trace) (p : List ℕ) where
     judged-verdict front latest v z q = rw (y, q, before-deadlock σ (numbers p) front latest z judged-events)
 
   -- The frontier is that of the closure.
-  pub judged-reached : (front latest : List ℕ) → Before σ (numbers p) front latest → Reached σ (numbers p) front
+  pub judged-reached : (front latest : List ℕ) → Before σ (numbers p) front latest → Reached σ (numbers p)
+      front
   judged-reached front latest z = record { long = z .settled .front-ok .long; members = z .members }

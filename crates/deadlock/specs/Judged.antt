@@ -1,10 +1,11 @@
 -- What is decided of a lent pattern, as one number, and the table that question 10 reads.
-use Prim.Native.Nat.{ℕ, _≤_}
+use Prim.Native.Nat.{ℕ, _+_, _-_, _≤_}
 use mathlib.Core.Path.{_≡_}
 use mathlib.Core.Bool.{cond, _&&_}
-use mathlib.Core.List.{List}
+use mathlib.Core.List.{List, [], _∷_}
 use lib.Dec.{leb}
 use lib.ListN.{length, getD}
+use Rattle.model.specs.Lists.{filter, from}
 use Rattle.model.specs.Bytes.{numbers, isWhole}
 use Rattle.model.specs.Trace.{Trace, tasks, task}
 use Rattle.model.specs.Relations.{held}
@@ -16,7 +17,8 @@ pub record Holding (σ : Trace) (holding : List ℕ) : Type 0 where
   pub long : length holding ≡ 4096
   pub at : (e : ℕ) → 1 ≤ e → e ≤ length σ → getD holding e 0 ≡ held σ e
 
--- Of the bytes of a pattern: 0 for none (question 10 is answered "no"), 1 for the verdict "not", 2 for deadlock.
+-- Of the bytes of a pattern: 0 for none (question 10 is answered "no"), 1 for the verdict "not", 2 for
+-- deadlock.
 unfoldable pub judged : Trace → List ℕ → ℕ
 judged σ p = cond (isWhole p && isPattern σ (numbers p)) (cond (isDeadlock σ (numbers p)) 2 1) 0
 
@@ -24,3 +26,15 @@ judged σ p = cond (isWhole p && isPattern σ (numbers p)) (cond (isDeadlock σ 
 pub record Reached (σ : Trace) (p front : List ℕ) : Type 0 where
   pub long : length front ≡ tasks
   pub members : (e : ℕ) → 1 ≤ e → e ≤ length σ → has (closureBefore σ p) e ≡ leb e (getD front (task σ e) 0)
+
+-- Event e where it is in the set of a frontier, and otherwise none.
+abbrev pub behindAt : Trace → List ℕ → ℕ → List ℕ
+behindAt σ front e = filter (λ f. leb f (getD front (task σ f) 0)) (e ∷ [])
+
+-- The events in the set of a frontier that are below e, in recording order.
+abbrev pub behindBelow : Trace → List ℕ → ℕ → List ℕ
+behindBelow σ front e = filter (λ f. leb f (getD front (task σ f) 0)) (from 1 (e - 1))
+
+-- The events in the set of a frontier.
+abbrev pub behind : Trace → List ℕ → List ℕ
+behind σ front = behindBelow σ front (length σ + 1)

@@ -6,17 +6,20 @@ ghost use mathlib.Core.Bool.{not, _&&_};
 ghost use mathlib.Core.List.{[]};
 ghost use lib.Dec.{T, leb};
 ghost use lib.ListN.{length, getD, drop, replicate};
+ghost use lib.Seq.{sets};
 ghost use Rattle.model.specs.Lists.{all, hasBit};
-ghost use Rattle.model.specs.Bytes.{numbers, isWhole};
+ghost use Rattle.model.specs.Bytes.{encode, numbers, isWhole};
 ghost use Rattle.model.specs.Trace.{tasks, task, isEvent, isAcquire};
 ghost use Rattle.model.specs.Recording.{decodeAll};
 ghost use Rattle.model.specs.Pattern.{isPattern};
 ghost use Rattle.model.specs.Calls.Check.{checkEvents};
 ghost use Rattle.model.specs.Calls.Verdict.{verdict};
+ghost use Rattle.model.specs.Calls.Witness.{witness, witnessOut};
+ghost use Rattle.laws.specs.Answered.{refusedWitness};
 ghost use Rattle.laws.specs.Chain.{signature, start, fits, completing, chainOf};
 ghost use Rattle.laws.specs.Frontier.{Before};
 ghost use Rattle.closure.specs.Visit.{Needed};
-ghost use Rattle.deadlock.specs.Judged.{Holding, judged, Reached};
+ghost use Rattle.deadlock.specs.Judged.{Holding, judged, Reached, behindAt, behind};
 
 // Lock l is in the mask.
 pub fn in_mask(mask: u64, l: u64) -> bool
@@ -41,7 +44,14 @@ fn is_acquire(records: &[u8], e: usize) -> bool
 
 // Event e may follow a chain that ends with the acquire `last`, of these tasks and with these held locks: its
 // task is new, and its held locks have the last event's lock and none of the chain's.
-pub fn follows(records: &[u8], holding: &[u64], last: usize, tasks: u64, guards: u64, e: usize) -> bool
+pub fn follows(
+    records: &[u8],
+    holding: &[u64],
+    last: usize,
+    tasks: u64,
+    guards: u64,
+    e: usize,
+) -> bool
     requires { ⌜ (1 ≤ last) × (2 * last ≤ length (now records)) × (1 ≤ e) × (2 * e ≤ length (now records))
         × (length (now records) ≤ 8190) × (checkEvents (decodeAll (now records)) .refusal ≡ 0)
         × Holding (decodeAll (now records)) (now holding) × T (isAcquire (decodeAll (now records)) last) ⌝ }
@@ -136,7 +146,16 @@ fn reach(
     let mut i = 0;
     while i < pattern.len() / 2 {
         let e = recording::number(pattern, i) as usize;
-        closure::extend(records, predecessors, writers, matches, front, want, latest, e);
+        closure::extend(
+            records,
+            predecessors,
+            writers,
+            matches,
+            front,
+            want,
+            latest,
+            e,
+        );
         i = i + 1;
     }
 }
@@ -180,7 +199,16 @@ pub fn decide(
     }
     let mut want = [0u16; 16];
     let mut latest = [0u16; 64];
-    reach(records, predecessors, writers, matches, pattern, front, &mut want, &mut latest);
+    reach(
+        records,
+        predecessors,
+        writers,
+        matches,
+        pattern,
+        front,
+        &mut want,
+        &mut latest,
+    );
     if avoids(records, pattern, front) {
         return 2;
     }
@@ -202,10 +230,24 @@ fn judge(records: &[u8], pattern: &[u8], front: &mut [u16]) -> u64
     let mut writers = [0u16; 4096];
     let mut matches = [0u16; 4096];
     relations::fill_tables(
-        records, &mut operations, &mut tasks, &mut objects, &mut holding, &mut predecessors, &mut writers,
+        records,
+        &mut operations,
+        &mut tasks,
+        &mut objects,
+        &mut holding,
+        &mut predecessors,
+        &mut writers,
         &mut matches,
     );
-    decide(records, &holding, &predecessors, &writers, &matches, pattern, front)
+    decide(
+        records,
+        &holding,
+        &predecessors,
+        &writers,
+        &matches,
+        pattern,
+        front,
+    )
 }
 
 // The verdict of a lent pattern: question 10, then whether the closure of its predecessors has none of its
@@ -234,5 +276,94 @@ pub fn verdict(recording: &[u8], pattern: &[u8]) -> model::Verdict
         refusal: 0,
         event: 0,
         deadlock: decided == 2,
+    }
+}
+
+// How many events are in the set of the frontier.
+fn count_behind(records: &[u8], front: &[u16]) -> u64
+    requires { ⌜ (length (now records) ≤ 8190) × (length (now front) ≡ tasks) ⌝ }
+    ensures { λ r. ⌜ (r ≤ 4095) × (r ≡ length (behind (decodeAll (now (records .entry))) (now (front .entry)))) ⌝ }
+{
+    let mut count = 0;
+    let mut e = 1;
+    while e <= records.len() / 2 {
+        if closure::contains(records, front, e) {
+            count = count + 1;
+        }
+        e = e + 1;
+    }
+    count
+}
+
+// Writes event e at a position of the output, where it is in the set of the frontier: the position after it.
+fn write_one(records: &[u8], front: &[u16], out: &mut [u8], at: usize, e: usize) -> usize
+    requires { ⌜ (1 ≤ e) × (2 * e ≤ length (now records)) × (e < 4096) × (length (now front) ≡ tasks)
+        × (at + length (encode (behindAt (decodeAll (now records)) (now front) e)) ≤ length (now out)) ⌝ }
+    ensures { λ r. ⌜ (r ≡ at + length (encode (behindAt (decodeAll (now (records .entry))) (now (front .entry)) e)))
+        × (now (out .exit)
+        ≡ sets (now (out .entry)) at (encode (behindAt (decodeAll (now (records .entry))) (now (front .entry)) e))) ⌝ }
+{
+    if !closure::contains(records, front, e) {
+        return at;
+    }
+    recording::put_number(out, at, e as u16);
+    at + 2
+}
+
+// Writes the events in the set of the frontier at the front of the output, in recording order, two bytes each.
+fn write_behind(records: &[u8], front: &[u16], out: &mut [u8])
+    requires { ⌜ (length (now records) ≤ 8190) × (length (now front) ≡ tasks)
+        × (2 * length (behind (decodeAll (now records)) (now front)) ≤ length (now out)) ⌝ }
+    ensures { λ r. ⌜ now (out .exit)
+        ≡ sets (now (out .entry)) 0 (encode (behind (decodeAll (now (records .entry))) (now (front .entry)))) ⌝ }
+{
+    let mut at = 0;
+    let mut e = 1;
+    while e <= records.len() / 2 {
+        at = write_one(records, front, out, at, e);
+        e = e + 1;
+    }
+}
+
+// A witness call that writes nothing.
+fn unwritten(refusal: u64, event: u64) -> model::Witness
+    ensures { λ r. ⌜ r ≡ refusedWitness refusal event ⌝ }
+{
+    model::Witness {
+        refusal,
+        event,
+        deadlock: false,
+        bytes: 0,
+    }
+}
+
+// The schedule that witnesses a lent pattern: question 10, the verdict, and where it is deadlock question 13; then
+// the closure of the predecessors is written in recording order.
+pub fn witness(recording: &[u8], pattern: &[u8], out: &mut [u8]) -> model::Witness
+    ensures answer { λ r. ⌜ r ≡ witness (now (recording .entry)) (now (pattern .entry)) (length (now (out .entry))) ⌝ }
+    ensures output { λ r. ⌜ now (out .exit) ≡ witnessOut (now (recording .entry)) (now (pattern .entry)) (now (out .entry)) ⌝ }
+{
+    let checked = recording::check(recording);
+    if checked.refusal != 0 {
+        return unwritten(checked.refusal, checked.event);
+    }
+    let mut front = [0u16; 16];
+    let decided = judge(&recording[2..], pattern, &mut front);
+    if decided == 0 {
+        return unwritten(10, 0);
+    }
+    if decided != 2 {
+        return unwritten(0, 0);
+    }
+    let count = count_behind(&recording[2..], &front);
+    if (out.len() as u64) < 2 * count {
+        return unwritten(13, 0);
+    }
+    write_behind(&recording[2..], &front, out);
+    model::Witness {
+        refusal: 0,
+        event: 0,
+        deadlock: true,
+        bytes: 2 * count,
     }
 }

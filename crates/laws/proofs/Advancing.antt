@@ -1,31 +1,31 @@
 -- How a frontier advances by visiting one event more; a task's turn is in Turns. Assumes nothing.
-use Prim.Native.Nat.{ℕ, zero, suc, _-_, _≤_, _<_}
-use mathlib.Core.Path.{_≡_, refl, sym, ap, _∙_}
+use Prim.Native.Nat.{ℕ, _-_, _≤_, _<_}
+use mathlib.Core.Path.{_≡_, refl, sym, _∙_}
 use mathlib.Core.Logic.{_⊎_, inl, inr, ⊎-elim, _≢_}
-use mathlib.Core.Bool.{Bool, true, false}
+use mathlib.Core.Bool.{false}
 use mathlib.Core.List.{List}
 use native.Mathlib.Omega.{arith}
 use lib.Dec.{T}
-use lib.ListN.{length, getD, set, replicate, length-set, getD-replicate}
+use lib.ListN.{getD, set, length-set}
 use lib.Seq.{getD-set-same, getD-set-other}
-use Rattle.model.specs.Trace.{Trace, tasks, locks, task, object, isAcquire}
+use Rattle.model.specs.Trace.{Trace, locks, task, object, isAcquire}
 use Rattle.model.specs.Relations.{predecessor, writer, matching}
-use Rattle.model.specs.Closed.{Direct, predecessor-is, writer-is, Again, Closed}
-use Rattle.laws.specs.Frontier.{Frontier, Behind, Visited, Advancing, Settled, Entails, raised}
+use Rattle.laws.specs.Frontier.{Frontier, Behind, Visited, Advancing}
 use Rattle.laws.proofs.Tests.{equal?}
-use Rattle.laws.proofs.Trace.{sameTask-iff, sameObject-iff}
+use Rattle.laws.proofs.Trace.{sameTask-iff}
 use Rattle.laws.proofs.Relations.{predecessor-latest, predecessor-below}
-use Rattle.laws.proofs.Closed.{closed-writer}
-use Rattle.laws.proofs.Frontier.{raised-grows, raised-reaches, raised-frontier, raised-entails}
-use Rattle.laws.proofs.Frontier.{closed-earlier}
-use Rattle.laws.proofs.WellFormed.{WellFormed, lock-lt, matching-between, matching-task}
+use Rattle.laws.proofs.WellFormed.{WellFormed}
 
 module _ (σ : Trace) (front : List ℕ) (t old f : ℕ) (is-task : task σ f ≡ t) where
   -- ---- one event more
 
   -- With event f visited, the ones left are its predecessor and those before that.
   visited-step : (e : ℕ) → Visited σ front t old (predecessor σ f) e → Visited σ front t old f e ⊎ (e ≡ f)
-  visited-step e v = ⊎-elim inr (λ d. inl (record { behind = v .behind; passed = λ q k. v .passed q (below d q k) }))
+  visited-step e v = ⊎-elim inr (λ d. inl (record {
+    behind = v .behind;
+    passed = λ q k. v .passed q
+        (below d q k);
+  }))
       (equal? e f)
     where
       below : e ≢ f → task σ e ≡ t → e ≤ f → e ≤ predecessor σ f
@@ -39,10 +39,15 @@ module _ (σ : Trace) (front : List ℕ) (t old f : ℕ) (is-task : task σ f �
   }
 
   visited-new : Behind σ front f → Visited σ front t old (predecessor σ f) f
-  visited-new b = record { behind = b; passed = λ q k. absurd (omega (arith, b .event, predecessor-below σ f)) }
+  visited-new b = record {
+    behind = b;
+    passed = λ q k. absurd
+        (omega (arith, b .event, predecessor-below σ f));
+  }
 
 module _ (σ : Trace) (ok : WellFormed σ) (front want latest : List ℕ) (t old f : ℕ)
-    (z : Advancing σ front want latest t old f) (is-task : task σ f ≡ t) (at-f : Behind σ front f) (left : old < f) where
+    (z : Advancing σ front want latest t old f) (is-task : task σ f ≡ t) (at-f : Behind σ front f)
+    (left : old < f) where
   -- An event is visited before f, or it is f.
   cases : (e : ℕ) → Visited σ front t old (predecessor σ f) e → Visited σ front t old f e ⊎ (e ≡ f)
   cases = visited-step σ front t old f is-task

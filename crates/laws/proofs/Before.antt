@@ -1,14 +1,15 @@
--- The frontier of the closure of some events' predecessors: of none, of one event more, and the verdict that it
+-- The frontier of the closure of some events' predecessors: of none, of one event more, and the verdict that
+-- it
 -- gives. Assumes nothing.
 use Prim.Native.Nat.{ℕ, zero, suc, _≤_, _<_}
 use mathlib.Core.Path.{_≡_, refl, sym, ap, _∙_}
 use mathlib.Core.Logic.{_⊎_, ⊎-elim, _≢_}
-use mathlib.Core.Bool.{Bool, true, false, not}
+use mathlib.Core.Bool.{false, not}
 use mathlib.Core.List.{List, [], _∷_, _++_, List·Memᴰ, List·Memᴰ·head, List·Memᴰ·not-nil}
 use mathlib.Core.List.{List·Memᴰ·append-cases, Memᴰ·append-right, List·Memᴰ·eq-of-singleton}
 use native.Mathlib.Omega.{arith}
 use lib.Dec.{T, leb, leb→le, le→leb, not-T}
-use lib.ListN.{length, getD, replicate, getD-replicate}
+use lib.ListN.{length, getD, replicate}
 use borrow.Author.Tests.{lt-leb, le-ltb}
 use Rattle.model.specs.Lists.{all}
 use Rattle.model.specs.Trace.{Trace, tasks, locks, task, isEvent}
@@ -17,16 +18,16 @@ use Rattle.model.specs.EventSet.{has}
 use Rattle.model.specs.Closed.{Closed}
 use Rattle.model.specs.Closure.{closure}
 use Rattle.model.specs.Pattern.{predecessors, closureBefore, isDeadlock}
-use Rattle.laws.specs.Frontier.{Frontier, Behind, Visited, Advancing, Settled, raised, Advanced, Before}
-use Rattle.laws.proofs.Tests.{decided, is-false, equal?}
+use Rattle.laws.specs.Frontier.{Frontier, Settled, raised, Advanced, Before}
+use Rattle.laws.proofs.Tests.{is-false, equal?}
 use Rattle.laws.proofs.Lists.{all-ext, all-iff}
-use Rattle.laws.proofs.Trace.{sameTask-iff, isEvent-iff}
+use Rattle.laws.proofs.Trace.{isEvent-iff}
 use Rattle.laws.proofs.Relations.{predecessor-below, predecessor-own}
 use Rattle.laws.proofs.Frontier.{raised-grows, raised-reaches, raised-cases, raised-frontier}
 use Rattle.laws.proofs.WellFormed.{WellFormed}
 use Rattle.laws.proofs.Turns.{settled-start}
 use Rattle.laws.proofs.Reached.{closure-behind}
-use Rattle.laws.proofs.Verdict.{predecessors-least, predecessors-sized, before-least, before-contains}
+use Rattle.laws.proofs.Verdict.{predecessors-least, predecessors-sized, before-least}
 use Rattle.laws.proofs.Verdict.{before-mono, predecessors-has}
 use Rattle.laws.proofs.Closure.{closure-contains}
 
@@ -64,7 +65,8 @@ module _ (σ : Trace) where
   before-start front latest p q = record {
     settled = settled-start σ front front latest clear p q;
     members = λ e h k.
-        is-false (has (closureBefore σ []) e) (not-T (has (closureBefore σ []) e) (absent e)) ∙ sym (none e h);
+        is-false (has (closureBefore σ []) e) (not-T (has (closureBefore σ []) e) (absent e)) ∙ sym
+        (none e h);
   }
     where
       zeros : (n t : ℕ) → _≡_ {A = ℕ} (getD (replicate n 0) t 0) 0
@@ -110,11 +112,14 @@ module _ (σ : Trace) where
           start f n d l = closure-contains σ (predecessors σ p) (predecessor σ f) (predecessors-has σ p n d l)
 
           new : (f : ℕ) → List·Memᴰ f (p ++ e ∷ []) → predecessor σ f ≢ 0 → predecessor σ f ≤ length σ
-              → predecessor σ f ≤ getD (raised front (task σ e) (predecessor σ e)) (task σ (predecessor σ f)) 0
-          new f m d l = ⊎-elim old (λ n. latest-one (List·Memᴰ·eq-of-singleton n)) (List·Memᴰ·append-cases p m)
+              → predecessor σ f ≤ getD (raised front (task σ e) (predecessor σ e))
+              (task σ (predecessor σ f)) 0
+          new f m d l = ⊎-elim old (λ n. latest-one (List·Memᴰ·eq-of-singleton n))
+              (List·Memᴰ·append-cases p m)
             where
               old : List·Memᴰ f p
-                  → predecessor σ f ≤ getD (raised front (task σ e) (predecessor σ e)) (task σ (predecessor σ f)) 0
+                  → predecessor σ f ≤ getD (raised front (task σ e) (predecessor σ e))
+                  (task σ (predecessor σ f)) 0
               old n =
                   let u = task σ (predecessor σ f) in
                   let inside : T (has (closureBefore σ p) (predecessor σ f)) = start f n d l in
@@ -123,26 +128,31 @@ module _ (σ : Trace) where
                   omega (arith, raised-grows front (task σ e) (predecessor σ e) small u)
 
               latest-one : f ≡ e
-                  → predecessor σ f ≤ getD (raised front (task σ e) (predecessor σ e)) (task σ (predecessor σ f)) 0
+                  → predecessor σ f ≤ getD (raised front (task σ e) (predecessor σ e))
+                  (task σ (predecessor σ f)) 0
               latest-one q =
                   let d′ : predecessor σ e ≢ 0 = rw q at d in
                   rw (q, predecessor-own σ e d′) (raised-reaches front (task σ e) (predecessor σ e) small)
 
       tops : (u : ℕ) → u < tasks → getD (raised front (task σ e) (predecessor σ e)) u 0 ≢ 0
-          → T (has (closure σ (predecessors σ (p ++ e ∷ []))) (getD (raised front (task σ e) (predecessor σ e)) u 0))
+          → T (has (closure σ (predecessors σ (p ++ e ∷ [])))
+          (getD (raised front (task σ e) (predecessor σ e)) u 0))
       tops u l d = ⊎-elim old new (raised-cases front (task σ e) (predecessor σ e) small u)
         where
           old : getD (raised front (task σ e) (predecessor σ e)) u 0 ≡ getD front u 0
-              → T (has (closure σ (predecessors σ (p ++ e ∷ []))) (getD (raised front (task σ e) (predecessor σ e)) u 0))
+              → T (has (closure σ (predecessors σ (p ++ e ∷ [])))
+              (getD (raised front (task σ e) (predecessor σ e)) u 0))
           old q =
               let n : getD front u 0 ≢ 0 = rw q at d in
               let (low, mine) = z .settled .front-ok .own u l n in
               let here : T (has (closureBefore σ p) (getD front u 0)) =
-              rw (z .members (getD front u 0) (omega arith) low, mine) (le→leb (getD front u 0) (getD front u 0) (omega arith)) in
+              rw (z .members (getD front u 0) (omega arith) low, mine)
+              (le→leb (getD front u 0) (getD front u 0) (omega arith)) in
               rw q (before-mono σ p (e ∷ []) (getD front u 0) here)
 
           new : (u ≡ task σ e) × (getD (raised front (task σ e) (predecessor σ e)) u 0 ≡ predecessor σ e)
-              → T (has (closure σ (predecessors σ (p ++ e ∷ []))) (getD (raised front (task σ e) (predecessor σ e)) u 0))
+              → T (has (closure σ (predecessors σ (p ++ e ∷ [])))
+              (getD (raised front (task σ e) (predecessor σ e)) u 0))
           new (s, q) =
               let n : predecessor σ e ≢ 0 = rw q at d in
               rw q (closure-contains σ (predecessors σ (p ++ e ∷ [])) (predecessor σ e)

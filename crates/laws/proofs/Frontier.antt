@@ -1,19 +1,19 @@
 -- Laws of frontiers: what raising one does, and what visiting one event more does. Assumes nothing.
 use Prim.Native.Nat.{ℕ, zero, suc, _-_, _≤_, _<_}
-use mathlib.Core.Path.{_≡_, refl, sym, ap, _∙_}
+use mathlib.Core.Path.{_≡_, refl, sym, _∙_}
 use mathlib.Core.Logic.{_⊎_, inl, inr, ⊎-elim, _≢_}
-use mathlib.Core.Bool.{Bool, true, false, cond}
+use mathlib.Core.Bool.{Bool}
 use mathlib.Core.List.{List}
 use native.Mathlib.Omega.{arith}
-use lib.Dec.{T, eqb, ltb}
-use lib.ListN.{length, getD, set, replicate, length-set, length-replicate, getD-replicate}
+use lib.Dec.{T, ltb}
+use lib.ListN.{length, getD, length-set}
 use lib.Seq.{getD-set-same, getD-set-other}
-use borrow.Author.Tests.{lt-ltb, le-ltb, ltb-true, ltb-false}
-use Rattle.model.specs.Trace.{Trace, tasks, locks, task, object, isAcquire}
-use Rattle.model.specs.Relations.{predecessor, writer, matching}
+use borrow.Author.Tests.{ltb-true, ltb-false}
+use Rattle.model.specs.Trace.{Trace, tasks, task}
+use Rattle.model.specs.Relations.{predecessor}
 use Rattle.model.specs.Closed.{Closed}
-use Rattle.laws.specs.Frontier.{Frontier, Behind, Visited, Advancing, Settled, Entails, raised}
-use Rattle.laws.proofs.Tests.{decided, equal?, at-most?}
+use Rattle.laws.specs.Frontier.{Frontier, Entails, raised}
+use Rattle.laws.proofs.Tests.{decided, equal?}
 use Rattle.laws.proofs.Trace.{sameTask-iff}
 use Rattle.laws.proofs.Relations.{predecessor-latest, predecessor-below}
 use Rattle.laws.proofs.Closed.{closed-predecessor}
@@ -83,7 +83,8 @@ module _ (σ : Trace) where
   -- ---- sets of a frontier
 
   -- A closed set has the earlier events of an event's task.
-  pub closed-earlier : (v : ℕ → Type 0) → Closed σ v → (f e : ℕ) → v f → 1 ≤ e → e ≤ f → task σ e ≡ task σ f → v e
+  pub closed-earlier : (v : ℕ → Type 0) → Closed σ v → (f e : ℕ) → v f → 1 ≤ e → e ≤ f → task σ e ≡ task σ
+      f → v e
   closed-earlier v c f e h i k q = go f f e h i k q (omega arith)
     where
       go : (n f e : ℕ) → v f → 1 ≤ e → e ≤ f → task σ e ≡ task σ f → f ≤ n → v e

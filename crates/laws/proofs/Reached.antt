@@ -1,26 +1,36 @@
--- A frontier at rest, with nothing more to reach, is that of the smallest closed set: what a closed set has of
+-- A frontier at rest, with nothing more to reach, is that of the smallest closed set: what a closed set has
+-- of
 -- it, that it is closed, and that it is the closure of the set that it began with. Assumes nothing.
-use Prim.Native.Nat.{ℕ, suc, _≤_, _<_}
-use mathlib.Core.Path.{_≡_, refl, sym, _∙_}
-use mathlib.Core.Logic.{⊎-elim, _≢_}
+use Prim.Native.Nat.{ℕ, _≤_, _<_}
+use mathlib.Core.Path.{_≡_, sym, _∙_}
+use mathlib.Core.Logic.{_≢_}
 use mathlib.Core.Bool.{Bool}
 use mathlib.Core.List.{List}
 use native.Mathlib.Omega.{arith}
 use lib.Dec.{T, leb, leb→le, le→leb}
 use lib.ListN.{length, getD}
 use lib.Seq.{ext-getD}
-use Rattle.model.specs.Trace.{Trace, tasks, task, object, isAcquire}
+use Rattle.model.specs.Trace.{Trace, tasks, task, object}
 use Rattle.model.specs.Relations.{predecessor, writer, matching}
 use Rattle.model.specs.EventSet.{EventSet, has}
 use Rattle.model.specs.Closed.{Direct, predecessor-is, writer-is, Again, Closed}
 use Rattle.model.specs.Closure.{closure}
-use Rattle.laws.specs.Frontier.{Frontier, Behind, Visited, Advancing, Settled, Entails, raised, Advanced}
+use Rattle.laws.specs.Frontier.{
+  Frontier,
+  Behind,
+  Visited,
+  Advancing,
+  Settled,
+  Entails,
+  raised,
+  Advanced,
+}
 use Rattle.laws.proofs.Tests.{T-ext}
-use Rattle.laws.proofs.Trace.{sameTask-iff, sameObject-iff, acquire-event}
+use Rattle.laws.proofs.Trace.{sameTask-iff, sameObject-iff}
 use Rattle.laws.proofs.Relations.{predecessor-latest, predecessor-below, writer-below, matching-below}
 use Rattle.laws.proofs.Closed.{closed-writer}
 use Rattle.laws.proofs.EventSet.{Within, has-lt, Sized}
-use Rattle.laws.proofs.Closure.{closure-contains, closure-closed, closure-least}
+use Rattle.laws.proofs.Closure.{closure-closed, closure-least}
 use Rattle.laws.proofs.Frontier.{closed-earlier, raised-entails}
 use Rattle.laws.proofs.WellFormed.{WellFormed, matching-between, matching-task}
 
@@ -30,7 +40,8 @@ module _ (σ : Trace) (ok : WellFormed σ) where
   -- A closed set with the wanted events has all that is behind the frontier.
   behind-in : (front want : List ℕ) → Frontier σ want → ((u : ℕ) → u < tasks → getD front u 0 ≤ getD want u 0)
       → (v : ℕ → Bool) → Closed σ (λ x. T (v x))
-      → ((u : ℕ) → u < tasks → getD want u 0 ≢ 0 → T (v (getD want u 0))) → (e : ℕ) → Behind σ front e → T (v e)
+      → ((u : ℕ) → u < tasks → getD want u 0 ≢ 0 → T (v (getD want u 0))) → (e : ℕ) → Behind σ front e → T
+      (v e)
   behind-in front want w ahead v c h e b =
       let l = ok .task-lt e (b .event .0) (b .event .1) in
       let m : e ≤ getD want (task σ e) 0 = omega (arith, ahead (task σ e) l, b .within) in
@@ -38,7 +49,8 @@ module _ (σ : Trace) (ok : WellFormed σ) where
       closed-earlier σ (λ x. T (v x)) c (getD want (task σ e) 0) e (h (task σ e) l d) (b .event .0) m
       (sym (w .own (task σ e) l d .1))
 
-  module _ (front want latest : List ℕ) (t old f : ℕ) (z : Advancing σ front want latest t old f) (given : List ℕ)
+  module _ (front want latest : List ℕ) (t old f : ℕ) (z : Advancing σ front want latest t old f)
+      (given : List ℕ)
       (entails : Entails σ given want) where
     -- The writer of an event behind the frontier follows from it.
     pub writer-entailed : Behind σ front f → writer σ f ≢ 0 → (u : ℕ) → u < length want
@@ -48,7 +60,8 @@ module _ (σ : Trace) (ok : WellFormed σ) where
         (λ v c h. closed-writer σ c f (behind-in front want (z .want-ok) (z .ahead) v c h f b) d)
 
     -- So does the match of the earlier of two acquires of one lock.
-    pub match-entailed : (a b : ℕ) → Again σ a b → Behind σ front a → Behind σ front b → (u : ℕ) → u < length want
+    pub match-entailed : (a b : ℕ) → Again σ a b → Behind σ front a → Behind σ front b → (u : ℕ) → u <
+        length want
         → Entails σ given (raised want u (matching σ a))
     match-entailed a b again x y u l =
         raised-entails σ given want u (matching σ a) l entails
@@ -64,7 +77,12 @@ module _ (σ : Trace) (ok : WellFormed σ) where
       → ((u : ℕ) → u < tasks → getD want u 0 ≤ getD front u 0) → want ≡ front
   rest-same front want latest z h =
       ext-getD 0 want front (z .want-ok .long ∙ sym (z .front-ok .long))
-      (λ u l. omega (arith, h u (omega (arith, z .want-ok .long)), z .ahead u (omega (arith, z .want-ok .long))))
+      (λ u l. omega (
+        arith,
+        h u (omega (arith, z .want-ok .long)),
+        z .ahead u
+            (omega (arith, z .want-ok .long)),
+      ))
 
   -- The set of a frontier at rest is closed.
   pub rest-closed : (front latest : List ℕ) → Settled σ front front latest → Closed σ (Behind σ front)
@@ -102,7 +120,8 @@ module _ (σ : Trace) (ok : WellFormed σ) where
 
   -- ---- the closure of a set
 
-  module _ (s : EventSet) (sized : Sized σ s) (given front latest : List ℕ) (z : Advanced σ given front latest)
+  module _ (s : EventSet) (sized : Sized σ s) (given front latest : List ℕ)
+      (z : Advanced σ given front latest)
       (reach : (e : ℕ) → T (has s e) → e ≤ getD given (task σ e) 0)
       (tops : (t : ℕ) → t < tasks → getD given t 0 ≢ 0 → T (has (closure σ s) (getD given t 0))) where
     -- What is behind the frontier is the closure of the set.
@@ -131,5 +150,6 @@ module _ (σ : Trace) (ok : WellFormed σ) where
         back : T (leb e (getD front (task σ e) 0)) → T (has (closure σ s) e)
         back h =
             behind-in front front (z .settled .front-ok) (λ u l. omega arith) (has (closure σ s))
-            (closure-closed σ s sized) (z .least .entailed (has (closure σ s)) (closure-closed σ s sized) tops) e
+            (closure-closed σ s sized) (z .least .entailed (has (closure σ s)) (closure-closed σ s sized)
+            tops) e
             (record { event = (i, k); within = leb→le e (getD front (task σ e) 0) h })

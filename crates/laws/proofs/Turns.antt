@@ -1,4 +1,5 @@
--- A task's turn in advancing a frontier: how it begins and ends, and the frontier before any. Assumes nothing.
+-- A task's turn in advancing a frontier: how it begins and ends, and the frontier before any. Assumes
+-- nothing.
 use Prim.Native.Nat.{ℕ, zero, suc, _≤_, _<_}
 use mathlib.Core.Path.{_≡_, refl, _∙_}
 use mathlib.Core.Logic.{⊎-elim, _≢_}

@@ -1,9 +1,12 @@
 -- The shapes of answers, refused and not, for the contracts of inner functions.
 use Prim.Native.Nat.{ℕ}
+use mathlib.Core.Bool.{false}
 use lib.Count.{ones}
 use lib.ListN.{length}
 use Rattle.model.specs.declared.Relations.{Relations}
 use Rattle.model.specs.declared.Load.{Load}
+use Rattle.model.specs.declared.Verdict.{Verdict}
+use Rattle.model.specs.declared.Witness.{Witness}
 use Rattle.model.specs.Lists.{filter, from}
 use Rattle.model.specs.Trace.{Trace}
 use Rattle.model.specs.Relations.{predecessor, writer, matching, held}
@@ -44,3 +47,11 @@ lockLoad σ l = record {
   event = 0;
   percent = percent (length (filter (isHeldAfter σ l) (from 1 (length σ)))) (length σ);
 }
+
+-- The verdict call, refused.
+abbrev pub refusedVerdict : ℕ → ℕ → Verdict
+refusedVerdict refusal event = record { refusal = refusal; event = event; deadlock = false }
+
+-- The witness call, refused or with the verdict "not".
+abbrev pub refusedWitness : ℕ → ℕ → Witness
+refusedWitness refusal event = record { refusal = refusal; event = event; deadlock = false; bytes = 0 }

@@ -69,4 +69,11 @@ module _ (σ : Trace) where
 
 -- A chain by its first and last event and its masks; which events lie between does not matter to its tests.
 abbrev pub chainOf : ℕ → ℕ → ℕ → ℕ → Chain
-chainOf first last tasks guards = record { events = []; first = first; last = last; tasks = tasks; guards = guards }
+chainOf first last tasks guards = record {
+  events = [];
+  first = first;
+  last = last;
+  tasks = tasks;
+  guards =
+      guards;
+}

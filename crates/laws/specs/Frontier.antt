@@ -1,4 +1,5 @@
--- Closures as frontiers: a set that has the predecessors of its events is given by the latest event that it has
+-- Closures as frontiers: a set that has the predecessors of its events is given by the latest event that it
+-- has
 -- of each task. How a frontier advances to a closure is stated here, for the contracts of inner functions.
 use Prim.Native.Nat.{ℕ, _≤_, _<_}
 use mathlib.Core.Path.{_≡_}
@@ -8,7 +9,7 @@ use mathlib.Core.List.{List}
 use lib.Dec.{T, leb, ltb}
 use lib.ListN.{length, getD, set}
 use Rattle.model.specs.Trace.{Trace, tasks, locks, task, object, isAcquire}
-use Rattle.model.specs.Relations.{predecessor, writer, matching}
+use Rattle.model.specs.Relations.{writer, matching}
 use Rattle.model.specs.EventSet.{has}
 use Rattle.model.specs.Closed.{Closed}
 use Rattle.model.specs.Pattern.{closureBefore}

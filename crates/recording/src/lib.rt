@@ -3,7 +3,8 @@
 ghost use Prim.Native.Nat.{_+_, _*_, _-_, _<_, _≤_};
 ghost use mathlib.Core.Path.{_≡_};
 ghost use lib.ListN.{length, getD};
-ghost use Rattle.model.specs.Bytes.{numbers};
+ghost use lib.Seq.{sets};
+ghost use Rattle.model.specs.Bytes.{numbers, twoBytes};
 ghost use Rattle.model.specs.Trace.{at, task, object};
 ghost use Rattle.model.specs.Recording.{decodeAll, eventCount};
 ghost use Rattle.model.specs.WellFormed.{fault};
@@ -17,6 +18,15 @@ pub fn number(bytes: &[u8], i: usize) -> u16
     ensures { λ r. ⌜ r ≡ getD (numbers (now (bytes .entry))) i 0 ⌝ }
 {
     ((bytes[2 * i] as u16) << 8) | (bytes[2 * i + 1] as u16)
+}
+
+// Writes the number n in two bytes at a position, the high byte first.
+pub fn put_number(bytes: &mut [u8], at: usize, n: u16)
+    requires { ⌜ at + 2 ≤ length (now bytes) ⌝ }
+    ensures { λ r. ⌜ now (bytes .exit) ≡ sets (now (bytes .entry)) at (twoBytes n) ⌝ }
+{
+    bytes[at] = (n / 256) as u8;
+    bytes[at + 1] = (n % 256) as u8;
 }
 
 // The operation of event e: the top 2 bits of its record.

@@ -1,3 +1,7 @@
 -- Laws of walks through schedules; each function's proof is in a folder of its own.
-pub mod Numbers
 pub mod Laws
+pub mod Asking
+pub mod Noting
+pub mod Walk
+pub mod Pattern
+pub mod Witness

@@ -1,5 +1,5 @@
-// The schedule checker: whether a proposed schedule, from any producer, is order-keeping and leaves the events
-// of a pattern next. It walks through the schedule once, with three tables of what is listed.
+// The schedule checker: whether a proposed schedule, from any producer, is order-keeping and leaves the
+// events of a pattern next. It walks through the schedule once, with three tables of what is listed.
 ghost use Prim.Native.Nat.{ℕ, _+_, _*_, _/_, _<_, _≤_};
 ghost use mathlib.Core.Path.{_≡_};
 ghost use mathlib.Core.Bool.{true, _&&_};
@@ -15,14 +15,6 @@ ghost use Rattle.model.specs.Schedule.{mayFollow, syncPreserving, witnesses};
 ghost use Rattle.model.specs.Calls.Check.{checkEvents};
 ghost use Rattle.schedule.specs.Listed.{Checking, UpTo, Listed, Ready};
 ghost use Rattle.schedule.specs.Next.{isListed, isNext, isUnlocked};
-
-// Number i, from 0, of numbers of two bytes, the high byte first.
-fn number(bytes: &[u8], i: usize) -> u16
-    requires { ⌜ i < length (now bytes) / 2 ⌝ }
-    ensures { λ r. ⌜ r ≡ getD (numbers (now (bytes .entry))) i 0 ⌝ }
-{
-    ((bytes[2 * i] as u16) << 8) | (bytes[2 * i + 1] as u16)
-}
 
 // Whether event e is listed: not 0, and no later than the latest listed event of its task.
 fn is_listed(records: &[u8], last: &[u16], e: u16) -> bool
@@ -46,8 +38,8 @@ fn is_next(records: &[u8], predecessors: &[u16], last: &[u16], e: u16) -> bool
     predecessors[at] == last[recording::task(records, at) as usize]
 }
 
-// Whether acquire e finds its lock free and keeps lock order: no acquire of it is listed, or the latest one is
-// earlier and its match is listed.
+// Whether acquire e finds its lock free and keeps lock order: no acquire of it is listed, or the latest one
+// is earlier and its match is listed.
 fn is_unlocked(records: &[u8], matches: &[u16], last: &[u16], acquires: &[u16], e: u16) -> bool
     requires { ⌜ (1 ≤ e) × (2 * e ≤ length (now records)) × (length (now records) ≤ 8190)
         × (length (now matches) ≡ 4096) × (length (now last) ≡ tasks) × (length (now acquires) ≡ locks)
@@ -55,7 +47,8 @@ fn is_unlocked(records: &[u8], matches: &[u16], last: &[u16], acquires: &[u16], 
         × (getD (now acquires) (object (decodeAll (now records)) e) 0 ≤ length (decodeAll (now records)))
         × ((f : ℕ) → 1 ≤ f → f ≤ length (decodeAll (now records))
         → getD (now matches) f 0 ≡ matching (decodeAll (now records)) f) ⌝ }
-    ensures { λ r. ⌜ r ≡ isUnlocked (decodeAll (now (records .entry))) (now (last .entry)) (now (acquires .entry)) e ⌝ }
+    ensures { λ r. ⌜ r ≡ isUnlocked (decodeAll (now (records .entry))) (now (last .entry))
+        (now (acquires .entry)) e ⌝ }
 {
     let latest = acquires[recording::object(records, e as usize) as usize];
     if latest == 0 {
@@ -67,8 +60,8 @@ fn is_unlocked(records: &[u8], matches: &[u16], last: &[u16], acquires: &[u16], 
     is_listed(records, last, matches[latest as usize])
 }
 
-// Whether number e may be listed next: it is an event and comes next in its task; a read's last listed write of
-// its variable is its writer, and an acquire finds its lock free and keeps lock order.
+// Whether number e may be listed next: it is an event and comes next in its task; a read's last listed write
+// of its variable is its writer, and an acquire finds its lock free and keeps lock order.
 fn follows(
     records: &[u8],
     predecessors: &[u16],
@@ -109,7 +102,8 @@ fn follows(
 // Notes that event e is listed: as the latest of its task, of its lock where it is an acquire, and of its
 // variable where it is a write.
 fn note(records: &[u8], last: &mut [u16], acquires: &mut [u16], writes: &mut [u16], e: u16)
-    requires { ⌜ (1 ≤ e) × (2 * e ≤ length (now records)) × (checkEvents (decodeAll (now records)) .refusal ≡ 0)
+    requires { ⌜ (1 ≤ e) × (2 * e ≤ length (now records))
+        × (checkEvents (decodeAll (now records)) .refusal ≡ 0)
         × Ready (decodeAll (now records)) (now last) (now acquires) (now writes) ⌝ }
     ensures { λ r. ⌜ ((before : List ℕ)
         → Listed (decodeAll (now (records .entry))) before (now (last .entry)) (now (acquires .entry))
@@ -144,14 +138,24 @@ fn keeps_order(
         × Checking (decodeAll (now records)) (now predecessors) (now writers) (now matches)
         × (now last ≡ replicate tasks 0) ⌝ }
     ensures { λ r. ⌜ (r ≡ syncPreserving (decodeAll (now (records .entry))) (numbers (now (schedule .entry))))
-        × (r ≡ true → UpTo (decodeAll (now (records .entry))) (numbers (now (schedule .entry))) (now (last .exit))) ⌝ }
+        × (r ≡ true → UpTo (decodeAll (now (records .entry))) (numbers (now (schedule .entry)))
+        (now (last .exit))) ⌝ }
 {
     let mut acquires = [0u16; 64];
     let mut writes = [0u16; 1024];
     let mut i = 0;
     while i < schedule.len() / 2 {
-        let e = number(schedule, i);
-        if !follows(records, predecessors, writers, matches, last, &acquires, &writes, e) {
+        let e = recording::number(schedule, i);
+        if !follows(
+            records,
+            predecessors,
+            writers,
+            matches,
+            last,
+            &acquires,
+            &writes,
+            e,
+        ) {
             return false;
         }
         note(records, last, &mut acquires, &mut writes, e);
@@ -171,7 +175,7 @@ fn leaves_next(records: &[u8], predecessors: &[u16], pattern: &[u8], last: &[u16
 {
     let mut i = 0;
     while i < pattern.len() / 2 {
-        if !is_next(records, predecessors, last, number(pattern, i)) {
+        if !is_next(records, predecessors, last, recording::number(pattern, i)) {
             return false;
         }
         i = i + 1;
@@ -179,8 +183,8 @@ fn leaves_next(records: &[u8], predecessors: &[u16], pattern: &[u8], last: &[u16
     true
 }
 
-// Whether the schedule witnesses the pattern: its length is even, it is order-keeping, and it leaves every event
-// of the pattern next.
+// Whether the schedule witnesses the pattern: its length is even, it is order-keeping, and it leaves every
+// event of the pattern next.
 pub fn witnessed(
     records: &[u8],
     predecessors: &[u16],

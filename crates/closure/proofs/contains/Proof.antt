@@ -25,7 +25,8 @@ cast-result-2 c = omega (arith, c .shared-slice-known3 .given (c .before .task .
 
 returns : tie.Need-returns
 returns c =
-    let a = c .before .before .before .before .args in ap (λ (t : ℕ). leb (a .e) (getD (a .front .now) t 0)) (c .before .task .ensures .1)
+    let a = c .before .before .before .before .args in ap
+    (λ (t : ℕ). leb (a .e) (getD (a .front .now) t 0)) (c .before .task .ensures .1)
 
 pub contains-spec : {M : Type 1} → statement M
 contains-spec =

@@ -16,9 +16,14 @@ use Rattle.closure.proofs.extend.Tie as tie
 -- The predecessor is wanted beside the frontier.
 wanted : (c : tie.After-raise)
     → c .raise .last .0
-    ≡ raised (c .before .before .before .before .before .before .before .before .before .before .before .args .front .now)
-    (task (decodeAll (c .before .before .before .before .before .before .before .before .before .before .before .args .records .now)) (c .before .before .before .before .before .before .before .before .before .before .before .args .e))
-    (predecessor (decodeAll (c .before .before .before .before .before .before .before .before .before .before .before .args .records .now)) (c .before .before .before .before .before .before .before .before .before .before .before .args .e))
+    ≡ raised (c .before .before .before .before .before .before .before .before .before .before .before
+    .args .front .now)
+    (task (decodeAll (c .before .before .before .before .before .before .before .before .before .before
+    .before .args .records .now)) (c .before .before .before .before .before .before .before .before
+    .before .before .before .args .e))
+    (predecessor (decodeAll (c .before .before .before .before .before .before .before .before .before
+    .before .before .args .records .now)) (c .before .before .before .before .before .before .before
+    .before .before .before .before .args .e))
 wanted c =
     let s = c .before .before .before .before .before .before .before .before .before .before .before in
     let size = decodeAll-length (s .args .records .now) in
@@ -42,11 +47,13 @@ shared-slice-read-raise c = search needs
 
 raise-requires : tie.Need-raise-requires
 raise-requires c κs =
-    let s = c .before .before .before .before .before .before .before .before .before .before in omega (arith, c .before .task .ensures, s .pre .3 .want-ok .long, ap length (s .pre .4))
+    let s = c .before .before .before .before .before .before .before .before .before .before in omega
+    (arith, c .before .task .ensures, s .pre .3 .want-ok .long, ap length (s .pre .4))
 
 advance-requires : tie.Need-advance-requires
 advance-requires c κs =
-    let s = c .before .before .before .before .before .before .before .before .before .before .before .before .before .before .before .before in
+    let s = c .before .before .before .before .before .before .before .before .before .before .before
+    .before .before .before .before .before in
     let σ = decodeAll (s .args .records .now) in
     let e = s .args .e in
     let size = decodeAll-length (s .args .records .now) in
@@ -56,7 +63,11 @@ advance-requires c κs =
       s .pre .2,
       rw (wanted (c .before .before .before .before .before))
           (settled-raised σ (s .args .front .now) (s .args .front .now) (s .args .latest .now) (task σ e)
-          (predecessor σ e) (s .pre .3) (omega (arith, c .before .before .before .before .before .before .before .task .ensures))
+          (predecessor σ e) (s .pre .3) (omega (
+            arith,
+            c .before .before .before .before .before .before
+                .before .task .ensures,
+          ))
           (omega (arith, s .pre .6)) (predecessor-own σ e)),
     )
 
@@ -71,8 +82,11 @@ same-length-3 c = search needs
 
 returns : tie.Need-returns
 returns c =
-    let a = c .before .before .before .before .before .before .advance .ensures in
-    (rw (wanted (c .before .before .before .before .before .before .before .before .before .before .before .before)) at (a .0), a .1)
+    let a = c .before .before .before .before .before .before .advance .ensures in (
+      rw (wanted (c .before .before .before .before .before .before .before .before .before .before .before
+          .before)) at (a .0),
+      a .1,
+    )
 
 pub extend-spec : {M : Type 1} → statement M
 extend-spec =

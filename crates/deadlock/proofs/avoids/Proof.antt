@@ -1,7 +1,7 @@
 -- `deadlock::avoids` meets its contract: what is left to ask decides. Assumes nothing.
-use Prim.Native.Nat.{ℕ, _+_, _-_, _*_, _/_, _≤_, _<_}
-use mathlib.Core.Path.{_≡_, refl, sym, ap, _∙_}
-use mathlib.Core.Bool.{Bool, true, false, not, _&&_}
+use Prim.Native.Nat.{_-_, _/_, _≤_, _<_}
+use mathlib.Core.Path.{_≡_, refl, sym, _∙_}
+use mathlib.Core.Bool.{not}
 use native.Mathlib.Omega.{arith}
 use borrow.Author.Needs.{needs}
 use lib.Dec.{leb}
@@ -36,7 +36,8 @@ cast-contains c = search needs
 contains-requires : tie.Need-contains-requires Inv-loop μ-loop
 contains-requires c κs =
     let s = c .before .before .before .before .before .before in
-    let event = number-event (s .args .records .now) (s .args .pattern .now) (c .before .before .loop .i) _ (s .pre .0) (c .before .loop-test .taken) (c .number .ensures) in
+    let event = number-event (s .args .records .now) (s .args .pattern .now) (c .before .before .loop .i) _
+    (s .pre .0) (c .before .loop-test .taken) (c .number .ensures) in
     (event .0, event .1, s .pre .1)
 
 returns : tie.Need-returns Inv-loop μ-loop
@@ -44,8 +45,10 @@ returns c =
     let s = c .before .before .before .before .before .before .before .before in
     let k = c .before .before .before .before .loop in
     let count = numbers-length (s .args .pattern .now) in
-    let inside : k .i < length (numbers (s .args .pattern .now)) = omega (arith, c .before .before .before .loop-test .taken) in
-    let yes-it = sym (rw (c .before .before .number .ensures) at (c .before .contains .ensures)) ∙ c .if1 .taken in
+    let inside : k .i < length (numbers (s .args .pattern .now)) = omega
+    (arith, c .before .before .before .loop-test .taken) in
+    let yes-it = sym (rw (c .before .before .number .ensures) at (c .before .contains .ensures)) ∙ c .if1
+    .taken in
     rw (all-next (decodeAll (s .args .records .now)) _ (k .i) inside _, yes-it) at (k .inv .1)
 
 add-i : tie.Need-add-i Inv-loop μ-loop
@@ -59,9 +62,10 @@ loop-again c =
     let s = c .before .before .before .before .before .before .before .before in
     let k = c .before .before .before .before .loop in
     let count = numbers-length (s .args .pattern .now) in
-    let inside : k .i < length (numbers (s .args .pattern .now)) = omega (arith, c .before .before .before .loop-test .taken) in
-    let no-it = sym (rw (c .before .before .number .ensures) at (c .before .contains .ensures)) ∙ c .if1 .left in
-    (
+    let inside : k .i < length (numbers (s .args .pattern .now)) = omega
+    (arith, c .before .before .before .loop-test .taken) in
+    let no-it = sym (rw (c .before .before .number .ensures) at (c .before .contains .ensures)) ∙ c .if1
+    .left in (
       omega (arith, c .before .before .before .loop-test .taken),
       rw (all-next (decodeAll (s .args .records .now)) _ (k .i) inside _, no-it) at (k .inv .1),
     )

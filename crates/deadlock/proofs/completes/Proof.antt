@@ -1,17 +1,15 @@
 -- `deadlock::completes` meets its contract: what is left completes the chain so far exactly where all does.
 -- Assumes nothing.
-use Prim.Native.Nat.{ℕ, _+_, _-_, _*_, _/_, _^_, _≤_, _<_}
+use Prim.Native.Nat.{ℕ, _-_, _*_, _/_, _^_, _≤_, _<_}
 use mathlib.Core.Path.{_≡_, sym, ap, _∙_}
-use mathlib.Core.Bool.{false}
 use native.Mathlib.Omega.{arith}
 use borrow.Author.Needs.{needs}
 use lib.Bits.{bitOr}
 use lib.Dec.{T}
-use lib.ListN.{length, getD, drop}
+use lib.ListN.{length, drop}
 use Rattle.model.specs.Bytes.{numbers}
 use Rattle.model.specs.Trace.{task, isAcquire}
 use Rattle.model.specs.Recording.{decodeAll}
-use Rattle.model.specs.Lists.{hasBit}
 use Rattle.laws.specs.Chain.{signature, start, completing, chainOf}
 use Rattle.laws.proofs.Tests.{or-l, not-true, not-false}
 use Rattle.laws.proofs.Bits.{shift-one}
@@ -54,16 +52,16 @@ loop-holds c =
     let s = c .before .before .before .before .before in
     let σ = decodeAll (s .args .records .now) in
     let a = s .args .a in
-    let size = decodeAll-length (s .args .records .now) in
-    (
+    let size = decodeAll-length (s .args .records .now) in (
       search needs,
       search needs,
       s .pre .0,
       s .pre .1,
       s .pre .5,
       completing-start σ a _ _ (drop 1 (numbers (s .args .pattern .now)))
-      (shift-one 64 _ (omega (arith, c .before .task .ensures)) ∙ ap (λ (n : ℕ). 2 ^ n) (c .before .task .ensures .1))
-      (s .pre .4 .at a (s .pre .0) (omega (arith, s .pre .1))),
+          (shift-one 64 _ (omega (arith, c .before .task .ensures)) ∙ ap (λ (n : ℕ). 2 ^ n)
+          (c .before .task .ensures .1))
+          (s .pre .4 .at a (s .pre .0) (omega (arith, s .pre .1))),
     )
 
 number-requires : tie.Need-number-requires Inv-loop μ-loop
@@ -79,7 +77,8 @@ returns c =
     let ns = numbers (s .args .pattern .now) in
     let size = numbers-length (s .args .pattern .now) in
     let inside : k .i < length ns = omega (arith, c .before .before .loop-test .taken) in
-    rw (completing-early (decodeAll (s .args .records .now)) ns (s .args .a) (k .last) (k .tasks) (k .guards) (k .i)
+    rw (completing-early (decodeAll (s .args .records .now)) ns (s .args .a) (k .last) (k .tasks)
+    (k .guards) (k .i)
     inside (omega (arith, c .before .number .ensures, c .if1 .taken))) at (k .inv .5)
 
 returns-2 : tie.Need-returns-2 Inv-loop μ-loop
@@ -89,7 +88,8 @@ returns-2 c =
     let ns = numbers (s .args .pattern .now) in
     let size = numbers-length (s .args .pattern .now) in
     let inside : k .i < length ns = omega (arith, c .before .before .before .loop-test .taken) in
-    rw (completing-past (decodeAll (s .args .records .now)) ns (s .args .a) (k .last) (k .tasks) (k .guards) (k .i)
+    rw (completing-past (decodeAll (s .args .records .now)) ns (s .args .a) (k .last) (k .tasks)
+    (k .guards) (k .i)
     inside (isEvent-false (decodeAll (s .args .records .now)) _ (λ h. omega (
       arith,
       decodeAll-length (s .args .records .now),
@@ -100,8 +100,7 @@ returns-2 c =
 follows-requires : tie.Need-follows-requires Inv-loop μ-loop
 follows-requires c κs =
     let s = c .before .before .before .before .before .before .before .before .before .before in
-    let k = c .before .before .before .before .loop in
-    (
+    let k = c .before .before .before .before .loop in (
       k .inv .2,
       k .inv .3,
       omega (arith, c .before .if1 .left),
@@ -114,13 +113,20 @@ follows-requires c κs =
 
 returns-3 : tie.Need-returns-3 Inv-loop μ-loop
 returns-3 c =
-    let s = c .before .before .before .before .before .before .before .before .before .before .before .before in
+    let s = c .before .before .before .before .before .before .before .before .before .before .before
+    .before in
     let k = c .before .before .before .before .before .before .loop in
     let ns = numbers (s .args .pattern .now) in
     let size = numbers-length (s .args .pattern .now) in
-    let inside : k .i < length ns = omega (arith, c .before .before .before .before .before .loop-test .taken) in
-    rw (completing-unfit (decodeAll (s .args .records .now)) ns (s .args .a) (k .last) (k .tasks) (k .guards) (k .i)
-    inside (rw (c .before .before .before .before .number .ensures) at (sym (c .before .follows .ensures) ∙ not-true _ (c .if3 .taken))))
+    let inside : k .i < length ns = omega (
+      arith,
+      c .before .before .before .before .before .loop-test
+          .taken,
+    ) in
+    rw (completing-unfit (decodeAll (s .args .records .now)) ns (s .args .a) (k .last) (k .tasks)
+    (k .guards) (k .i)
+    inside (rw (c .before .before .before .before .number .ensures) at
+    (sym (c .before .follows .ensures) ∙ not-true _ (c .if3 .taken))))
     at (k .inv .5)
 
 task-requires-2 : tie.Need-task-requires-2 Inv-loop μ-loop
@@ -146,28 +152,35 @@ loop-less c = search needs
 
 loop-again : tie.Need-loop-again Inv-loop μ-loop
 loop-again c =
-    let s = c .before .before .before .before .before .before .before .before .before .before .before .before .before .before in
+    let s = c .before .before .before .before .before .before .before .before .before .before .before
+    .before .before .before in
     let k = c .before .before .before .before .before .before .before .before .loop in
     let ns = numbers (s .args .pattern .now) in
     let size = numbers-length (s .args .pattern .now) in
-    let inside : k .i < length ns = omega (arith, c .before .before .before .before .before .before .before .loop-test .taken) in
+    let inside : k .i < length ns = omega (
+      arith,
+      c .before .before .before .before .before .before .before
+          .loop-test .taken,
+    ) in
     let σ = decodeAll (s .args .records .now) in
     let event = decodeAll-length (s .args .records .now) in
     let later = c .before .before .before .before .before .if1 .left in
     let low = c .before .before .before .before .if2 .left in
-    let fit = sym (c .before .before .before .follows .ensures) ∙ not-false _ (c .before .before .if3 .left) in
-    (
+    let fit = sym (c .before .before .before .follows .ensures) ∙ not-false _
+    (c .before .before .if3 .left) in (
       omega arith,
       omega arith,
       omega arith,
       omega arith,
       fits-acquires σ (k .last) (k .tasks) (k .guards) _ fit,
-      completing-fit σ ns (s .args .a) (k .last) (k .tasks) (k .guards) (k .i) inside _ _ _ (c .before .before .before .before .before .before .number .ensures)
-      (isEvent-true σ _ (omega arith) (omega arith)) (omega arith) fit
-      (ap (λ (n : ℕ). bitOr (k .tasks) n)
-      (shift-one 64 _ (omega (arith, c .before .task2 .ensures)) ∙ ap (λ (n : ℕ). 2 ^ n) (c .before .task2 .ensures .1)))
-      (ap (λ (n : ℕ). bitOr (k .guards) n) (s .pre .4 .at _ (omega arith) (omega arith)))
-      ∙ k .inv .5,
+      completing-fit σ ns (s .args .a) (k .last) (k .tasks) (k .guards) (k .i) inside _ _ _
+          (c .before .before .before .before .before .before .number .ensures)
+          (isEvent-true σ _ (omega arith) (omega arith)) (omega arith) fit
+          (ap (λ (n : ℕ). bitOr (k .tasks) n)
+          (shift-one 64 _ (omega (arith, c .before .task2 .ensures)) ∙ ap (λ (n : ℕ). 2 ^ n)
+          (c .before .task2 .ensures .1)))
+          (ap (λ (n : ℕ). bitOr (k .guards) n) (s .pre .4 .at _ (omega arith) (omega arith)))
+          ∙ k .inv .5,
     )
 
 mul-in-mask : tie.Need-mul-in-mask Inv-loop μ-loop
@@ -191,7 +204,7 @@ in-mask-requires c κs =
     omega (
       arith,
       lock-lt (decodeAll b) (events-sound b (s .pre .3)) (k .last) (k .inv .2) (omega (arith, k .inv .3))
-      (or-l (isAcquire (decodeAll b) (k .last)) _ (k .inv .4)),
+          (or-l (isAcquire (decodeAll b) (k .last)) _ (k .inv .4)),
       c .object .ensures .1,
     )
 
@@ -204,7 +217,8 @@ returns-4 c =
     let count = numbers-length (s .args .pattern .now) in
     c .in-mask .ensures
     ∙ rw (s .pre .4 .at (s .args .a) (s .pre .0) (omega (arith, s .pre .1)), c .before .object .ensures .1)
-    (sym (completing-last σ (numbers (s .args .pattern .now)) (s .args .a) (k .last) (k .tasks) (k .guards) (k .i)
+    (sym (completing-last σ (numbers (s .args .pattern .now)) (s .args .a) (k .last) (k .tasks) (k .guards)
+    (k .i)
     (omega (arith, c .before .before .before .loop-test .left))) ∙ k .inv .5)
 
 pub completes-spec : {M : Type 1} → statement M

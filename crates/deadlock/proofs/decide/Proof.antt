@@ -1,5 +1,5 @@
--- `deadlock::decide` meets its contract: question 10, and then the frontier of the predecessors. Assumes nothing.
-use Prim.Native.Nat.{ℕ}
+-- `deadlock::decide` meets its contract: question 10, and then the frontier of the predecessors. Assumes
+-- nothing.
 use mathlib.Core.Path.{_≡_, refl, sym, _∙_}
 use mathlib.Core.Bool.{true, false, _&&_}
 use native.Mathlib.Omega.{arith}
@@ -16,7 +16,8 @@ use Rattle.deadlock.proofs.decide.Tie as tie
 -- The lent bytes are a pattern.
 pattern-lent : (c : tie.Else1)
     → (isWhole (c .before .before .before .before .before .before .before .before .before .args .pattern .now)
-    && isPattern (decodeAll (c .before .before .before .before .before .before .before .before .before .args .records .now))
+    && isPattern (decodeAll (c .before .before .before .before .before .before .before .before .before
+    .args .records .now))
     (numbers (c .before .before .before .before .before .before .before .before .before .args .pattern .now)))
     ≡ true
 pattern-lent c = sym (c .before .lends-pattern .ensures) ∙ not-false _ (c .if1 .left)
@@ -26,10 +27,9 @@ lends-pattern-requires c κs = search needs
 
 returns : tie.Need-returns
 returns c =
-    let s = c .before .before .before .before .before .before .before .before .before in
-    (
+    let s = c .before .before .before .before .before .before .before .before .before in (
       judged-none (decodeAll (s .args .records .now)) (s .args .pattern .now)
-      (sym (c .before .lends-pattern .ensures) ∙ not-true _ (c .if1 .taken)),
+          (sym (c .before .lends-pattern .ensures) ∙ not-true _ (c .if1 .taken)),
       λ q. absurd (omega arith),
     )
 
@@ -41,9 +41,9 @@ slice-aggregate-reach-2 c = search needs
 
 reach-requires : tie.Need-reach-requires
 reach-requires c κs =
-    let s = c .before .before .before .before .before .before .before .before .before .before .before .before in
-    let σ = decodeAll (s .args .records .now) in
-    (
+    let s = c .before .before .before .before .before .before .before .before .before .before .before
+    .before in
+    let σ = decodeAll (s .args .records .now) in (
       s .pre .0,
       s .pre .1,
       s .pre .3,
@@ -54,9 +54,10 @@ reach-requires c κs =
 
 avoids-requires : tie.Need-avoids-requires
 avoids-requires c κs =
-    let s = c .before .before .before .before .before .before .before .before .before .before .before .before .before .before .before .before .before .before in
-    (
-      judged-events (decodeAll (s .args .records .now)) (s .args .pattern .now) (pattern-lent (c .before .before .before .before .before .before .before .before .before)),
+    let s = c .before .before .before .before .before .before .before .before .before .before .before
+    .before .before .before .before .before .before .before in (
+      judged-events (decodeAll (s .args .records .now)) (s .args .pattern .now)
+          (pattern-lent (c .before .before .before .before .before .before .before .before .before)),
       c .before .before .before .before .before .reach .ensures .settled .front-ok .long,
     )
 
@@ -65,12 +66,14 @@ same-length c = search needs
 
 returns-2 : tie.Need-returns-2
 returns-2 c =
-    let s = c .before .before .before .before .before .before .before .before .before .before .before .before .before .before .before .before .before .before .before .before in
+    let s = c .before .before .before .before .before .before .before .before .before .before .before
+    .before .before .before .before .before .before .before .before .before in
     let σ = decodeAll (s .args .records .now) in
     let z = c .before .before .before .before .before .before .before .reach .ensures in
-    let v = sym (c .before .avoids .ensures) ∙ c .if2 .taken in
-    (
-      judged-verdict σ (s .args .pattern .now) (pattern-lent (c .before .before .before .before .before .before .before .before .before .before .before)) _ _ true z (sym v),
+    let v = sym (c .before .avoids .ensures) ∙ c .if2 .taken in (
+      judged-verdict σ (s .args .pattern .now) (pattern-lent
+          (c .before .before .before .before .before .before .before .before .before .before .before)) _ _
+          true z (sym v),
       λ _. judged-reached σ (s .args .pattern .now) _ _ z,
     )
 
@@ -79,12 +82,14 @@ same-length-2 c = search needs
 
 returns-3 : tie.Need-returns-3
 returns-3 c =
-    let s = c .before .before .before .before .before .before .before .before .before .before .before .before .before .before .before .before .before .before .before .before in
+    let s = c .before .before .before .before .before .before .before .before .before .before .before
+    .before .before .before .before .before .before .before .before .before in
     let σ = decodeAll (s .args .records .now) in
     let z = c .before .before .before .before .before .before .before .reach .ensures in
-    let v = sym (c .before .avoids .ensures) ∙ c .if2 .left in
-    (
-      judged-verdict σ (s .args .pattern .now) (pattern-lent (c .before .before .before .before .before .before .before .before .before .before .before)) _ _ false z (sym v),
+    let v = sym (c .before .avoids .ensures) ∙ c .if2 .left in (
+      judged-verdict σ (s .args .pattern .now) (pattern-lent
+          (c .before .before .before .before .before .before .before .before .before .before .before)) _ _
+          false z (sym v),
       λ q. absurd (omega arith),
     )
 

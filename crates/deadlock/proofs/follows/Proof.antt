@@ -1,10 +1,7 @@
 -- `deadlock::follows` meets its contract: each return cites the law of its case. Assumes nothing.
-use Prim.Native.Nat.{_≤_, _<_}
 use mathlib.Core.Path.{refl, sym, _∙_}
-use mathlib.Core.Bool.{_||_}
 use native.Mathlib.Omega.{arith}
 use borrow.Author.Needs.{needs}
-use lib.ListN.{length}
 use Rattle.model.specs.Trace.{isAcquire}
 use Rattle.model.specs.Recording.{decodeAll}
 use Rattle.laws.proofs.Tests.{or-l, not-true, not-false}
@@ -43,8 +40,9 @@ in-mask-requires c κs =
     let size = decodeAll-length b in
     omega (
       arith,
-      lock-lt (decodeAll b) (events-sound b (s .pre .5)) (s .args .last) (s .pre .0) (omega (arith, s .pre .1))
-      (or-l (isAcquire (decodeAll b) (s .args .last)) _ (s .pre .7)),
+      lock-lt (decodeAll b) (events-sound b (s .pre .5)) (s .args .last) (s .pre .0)
+          (omega (arith, s .pre .1))
+          (or-l (isAcquire (decodeAll b) (s .args .last)) _ (s .pre .7)),
       c .object .ensures .1,
     )
 
@@ -54,8 +52,10 @@ returns-2 c =
     let a = s .args in
     let size = decodeAll-length (a .records .now) in
     fits-lock (decodeAll (a .records .now)) (a .last) (a .tasks) (a .guards) (a .e)
-    (c .before .before .before .before .before .operation .ensures .1) (s .pre .6 .at (a .e) (s .pre .2) (omega (arith, s .pre .3)))
-    (c .before .before .object .ensures .1) refl (sym (c .before .in-mask .ensures) ∙ not-true _ (c .if2 .taken))
+    (c .before .before .before .before .before .operation .ensures .1)
+    (s .pre .6 .at (a .e) (s .pre .2) (omega (arith, s .pre .3)))
+    (c .before .before .object .ensures .1) refl (sym (c .before .in-mask .ensures) ∙ not-true _
+    (c .if2 .taken))
 
 task-requires : tie.Need-task-requires
 task-requires c κs = search needs
@@ -72,7 +72,9 @@ returns-3 c =
     let a = s .args in
     let size = decodeAll-length (a .records .now) in
     fits-task (decodeAll (a .records .now)) (a .last) (a .tasks) (a .guards) (a .e)
-    (c .before .before .before .before .before .before .before .before .operation .ensures .1) (s .pre .6 .at (a .e) (s .pre .2) (omega (arith, s .pre .3))) (c .before .before .before .before .before .object .ensures .1)
+    (c .before .before .before .before .before .before .before .before .operation .ensures .1)
+    (s .pre .6 .at (a .e) (s .pre .2) (omega (arith, s .pre .3)))
+    (c .before .before .before .before .before .object .ensures .1)
     (c .before .before .task .ensures .1) (sym (c .before .in-mask2 .ensures) ∙ c .if3 .taken)
 
 returns-4 : tie.Need-returns-4
@@ -81,9 +83,13 @@ returns-4 c =
     let a = s .args in
     let size = decodeAll-length (a .records .now) in
     fits-guards (decodeAll (a .records .now)) (a .last) (a .tasks) (a .guards) (a .e)
-    (c .before .before .before .before .before .before .before .before .operation .ensures .1) (s .pre .6 .at (a .e) (s .pre .2) (omega (arith, s .pre .3))) (c .before .before .before .before .before .object .ensures .1)
-    (c .before .before .task .ensures .1) (c .before .before .before .before .before .before .before .if1 .left)
-    (sym (c .before .before .before .before .in-mask .ensures) ∙ not-false _ (c .before .before .before .if2 .left))
+    (c .before .before .before .before .before .before .before .before .operation .ensures .1)
+    (s .pre .6 .at (a .e) (s .pre .2) (omega (arith, s .pre .3)))
+    (c .before .before .before .before .before .object .ensures .1)
+    (c .before .before .task .ensures .1) (c .before .before .before .before .before .before .before .if1
+    .left)
+    (sym (c .before .before .before .before .in-mask .ensures) ∙ not-false _
+    (c .before .before .before .if2 .left))
     (sym (c .before .in-mask2 .ensures) ∙ c .if3 .left)
 
 pub follows-spec : {M : Type 1} → statement M

@@ -1,9 +1,6 @@
 -- `deadlock::is_acquire` meets its contract: the number's range, and the operation. Assumes nothing.
-use Prim.Native.Nat.{_≤_}
-use mathlib.Core.Path.{sym}
 use native.Mathlib.Omega.{arith}
 use borrow.Author.Needs.{needs}
-use lib.ListN.{length}
 use Rattle.model.specs.Recording.{decodeAll}
 use Rattle.laws.proofs.Trace.{isEvent-true, isEvent-false, decodeAll-length}
 use Rattle.laws.proofs.Faults.{isAcquire-op}
@@ -30,7 +27,8 @@ returns-3 c =
     let σ = decodeAll (a .records .now) in
     let small = decodeAll-length (a .records .now) in
     rw (
-      isEvent-true σ (a .e) (omega (arith, c .before .before .if1 .left)) (omega (arith, c .before .if2 .left)),
+      isEvent-true σ (a .e) (omega (arith, c .before .before .if1 .left))
+          (omega (arith, c .before .if2 .left)),
       isAcquire-op σ (a .e) (c .operation .ensures .1),
     )
 

@@ -43,10 +43,10 @@ slice-aggregate-decide-4 c = search needs
 decide-requires : tie.Need-decide-requires
 decide-requires c κs =
     let s =
-        c .before .before .before .before .before .before .before .before .before .before .before .before
-        .before .before .before .before .before .before .before .before .before .before .before in
-    let tables = c .before .before .before .before .before .before .before .before .before .before .before .before .fill-tables .ensures in
-    (
+    c .before .before .before .before .before .before .before .before .before .before .before .before
+    .before .before .before .before .before .before .before .before .before .before .before in
+    let tables = c .before .before .before .before .before .before .before .before .before .before .before
+    .before .fill-tables .ensures in (
       s .pre .0,
       s .pre .1,
       record { long = tables .long .held-long; at = tables .held-at },

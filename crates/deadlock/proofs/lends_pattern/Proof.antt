@@ -1,14 +1,10 @@
 -- `deadlock::lends_pattern` meets its contract: length, first number, and the rest. Assumes nothing.
-use Prim.Native.Nat.{_≤_}
-use mathlib.Core.Path.{_≡_, sym, ap, _∙_}
-use mathlib.Core.Bool.{Bool, true, _&&_}
+use mathlib.Core.Path.{sym, _∙_}
+use mathlib.Core.Bool.{_&&_}
 use mathlib.Core.Logic.{inl, inr}
-use mathlib.Core.List.{List}
 use native.Mathlib.Omega.{arith}
 use borrow.Author.Needs.{needs}
 use lib.Dec.{T}
-use lib.ListN.{length, drop}
-use Rattle.model.specs.Bytes.{numbers}
 use Rattle.model.specs.Trace.{isEvent, isAcquire}
 use Rattle.model.specs.Recording.{decodeAll}
 use Rattle.laws.proofs.Tests.{parts, not-true, not-false}
@@ -18,13 +14,18 @@ use Rattle.deadlock.proofs.lends_pattern.Statement.{statement}
 use Rattle.deadlock.proofs.lends_pattern.Tie as tie
 
 returns : tie.Need-returns
-returns c = lends-odd (decodeAll (c .before .before .before .before .args .records .now)) (c .before .before .before .before .args .pattern .now) (c .if1 .taken)
+returns c = lends-odd (decodeAll (c .before .before .before .before .args .records .now))
+    (c .before .before .before .before .args .pattern .now) (c .if1 .taken)
 
 returns-2 : tie.Need-returns-2
-returns-2 c = lends-size (decodeAll (c .before .before .before .before .before .args .records .now)) (c .before .before .before .before .before .args .pattern .now) (c .before .if1 .left) (inl (c .if2 .taken))
+returns-2 c = lends-size (decodeAll (c .before .before .before .before .before .args .records .now))
+    (c .before .before .before .before .before .args .pattern .now) (c .before .if1 .left)
+    (inl (c .if2 .taken))
 
 returns-3 : tie.Need-returns-3
-returns-3 c = lends-size (decodeAll (c .before .before .before .before .before .before .args .records .now)) (c .before .before .before .before .before .before .args .pattern .now) (c .before .before .if1 .left) (inr (c .if3 .taken))
+returns-3 c = lends-size (decodeAll (c .before .before .before .before .before .before .args .records
+    .now)) (c .before .before .before .before .before .before .args .pattern .now)
+    (c .before .before .if1 .left) (inr (c .if3 .taken))
 
 number-requires : tie.Need-number-requires
 number-requires c κs = search needs
@@ -37,8 +38,12 @@ is-acquire-requires c κs = search needs
 
 returns-4 : tie.Need-returns-4
 returns-4 c =
-    lends-first (decodeAll (c .before .before .before .before .before .before .before .before .before .args .records .now)) (c .before .before .before .before .before .before .before .before .before .args .pattern .now) (c .before .before .before .before .before .if1 .left) (c .before .before .before .before .if2 .left) (c .before .before .before .if3 .left)
-    (rw (c .before .before .number .ensures) at (sym (c .before .is-acquire .ensures) ∙ not-true _ (c .if4 .taken)))
+    lends-first (decodeAll (c .before .before .before .before .before .before .before .before .before .args
+    .records .now)) (c .before .before .before .before .before .before .before .before .before .args
+    .pattern .now) (c .before .before .before .before .before .if1 .left)
+    (c .before .before .before .before .if2 .left) (c .before .before .before .if3 .left)
+    (rw (c .before .before .number .ensures) at (sym (c .before .is-acquire .ensures) ∙ not-true _
+    (c .if4 .taken)))
 
 completes-requires : tie.Need-completes-requires
 completes-requires c κs =
@@ -46,10 +51,9 @@ completes-requires c κs =
     let σ = decodeAll (s .args .records .now) in
     let a = c .before .before .number .result in
     let t : T (isEvent σ a && isAcquire σ a) =
-        rw (sym (c .before .is-acquire .ensures) ∙ not-false _ (c .if4 .left)) tt in
+    rw (sym (c .before .is-acquire .ensures) ∙ not-false _ (c .if4 .left)) tt in
     let event = isEvent-iff σ a .0 (search parts) in
-    let size = decodeAll-length (s .args .records .now) in
-    (
+    let size = decodeAll-length (s .args .records .now) in (
       event .0,
       omega arith,
       s .pre .0,
@@ -63,7 +67,11 @@ returns-5 : tie.Need-returns-5
 returns-5 c =
     let first = c .before .before .before .number .ensures in
     rw first at (c .completes .ensures)
-    ∙ lends-rest (decodeAll (c .before .before .before .before .before .before .before .before .before .before .args .records .now)) (c .before .before .before .before .before .before .before .before .before .before .args .pattern .now) (c .before .before .before .before .before .before .if1 .left) (c .before .before .before .before .before .if2 .left) (c .before .before .before .before .if3 .left)
+    ∙ lends-rest (decodeAll (c .before .before .before .before .before .before .before .before .before
+    .before .args .records .now)) (c .before .before .before .before .before .before .before .before
+    .before .before .args .pattern .now) (c .before .before .before .before .before .before .if1
+    .left) (c .before .before .before .before .before .if2 .left)
+    (c .before .before .before .before .if3 .left)
     (rw first at (sym (c .before .before .is-acquire .ensures) ∙ not-false _ (c .before .if4 .left)))
 
 pub lends-pattern-spec : {M : Type 1} → statement M

@@ -1,22 +1,18 @@
--- `deadlock::verdict` meets its contract: questions 1 to 7, then what is decided of the pattern. Assumes nothing.
-use Prim.Native.Nat.{ℕ}
+-- `deadlock::verdict` meets its contract: questions 1 to 7, then what is decided of the pattern. Assumes
+-- nothing.
 use mathlib.Core.Path.{_≡_, refl, sym, ap, _∙_}
-use mathlib.Core.Bool.{false}
-use native.Mathlib.Omega.{arith}
 use borrow.Author.Needs.{needs}
-use lib.Dec.{eqb}
 use Rattle.model.specs.declared.Outcome.{Outcome}
-use Rattle.model.specs.declared.Verdict.{Verdict}
-use Rattle.model.specs.Recording.{trace}
 use Rattle.model.specs.Calls.Check.{check}
+use Rattle.laws.specs.Answered.{refusedVerdict}
 use Rattle.laws.proofs.Questions.{check-bytes, part-trace, part-small, part-accepted}
-use Rattle.deadlock.specs.Judged.{judged}
-use Rattle.deadlock.proofs.Answers.{refusedVerdict, verdict-unchecked, verdict-none, verdict-some}
+use Rattle.deadlock.proofs.Answers.{verdict-unchecked, verdict-none, verdict-some}
 use Rattle.deadlock.proofs.verdict.Statement.{statement}
 use Rattle.deadlock.proofs.verdict.Tie as tie
 
 -- The recording is accepted.
-accepted : (c : tie.Else1) → check (c .before .before .before .before .before .args .recording .now) .refusal ≡ 0
+accepted : (c : tie.Else1) → check (c .before .before .before .before .before .args .recording .now)
+    .refusal ≡ 0
 accepted c = sym (ap (λ (o : Outcome). o .refusal) (c .before .before .check .ensures)) ∙ c .if1 .left
 
 check-requires : tie.Need-check-requires
@@ -34,7 +30,8 @@ sub-judge c = check-bytes (c .before .before .before .before .before .args .reco
 
 part-judge-start : tie.Need-part-judge-start
 part-judge-start c =
-    let h = check-bytes (c .before .before .before .before .before .args .recording .now) (accepted c) .0 in search needs
+    let h = check-bytes (c .before .before .before .before .before .args .recording .now) (accepted c) .0
+    in search needs
 
 part-judge-end : tie.Need-part-judge-end
 part-judge-end c = search needs
@@ -45,22 +42,28 @@ slice-aggregate-judge c = search needs
 judge-requires : tie.Need-judge-requires
 judge-requires c κs =
     let b = c .before .before .before .before .before .before .before .args .recording .now in
-    let ok = accepted (c .before .before) in
-    (part-small b ok (c .before .before .before .before .before .before .shared-slice-known .given 1 .fits), part-accepted b ok, refl)
+    let ok = accepted (c .before .before) in (
+      part-small b ok (c .before .before .before .before .before .before .shared-slice-known .given 1
+          .fits),
+      part-accepted b ok,
+      refl,
+    )
 
 returns-2 : tie.Need-returns-2
 returns-2 c =
     let s = c .before .before .before .before .before .before .before .before .before .before in
     let b = s .args .recording .now in
     let is = rw (part-trace b) at (c .before .before .judge .ensures .0) in
-    sym (verdict-none b (s .args .pattern .now) (accepted (c .before .before .before .before .before)) (sym is ∙ c .if2 .taken))
+    sym (verdict-none b (s .args .pattern .now) (accepted (c .before .before .before .before .before))
+    (sym is ∙ c .if2 .taken))
 
 returns-3 : tie.Need-returns-3
 returns-3 c =
     let s = c .before .before .before .before .before .before .before .before .before .before in
     let b = s .args .recording .now in
     let is = rw (part-trace b) at (c .before .before .judge .ensures .0) in
-    rw is (sym (verdict-some b (s .args .pattern .now) (accepted (c .before .before .before .before .before)) (λ q. c .if2 .left (is ∙ q))))
+    rw is (sym (verdict-some b (s .args .pattern .now) (accepted
+    (c .before .before .before .before .before)) (λ q. c .if2 .left (is ∙ q))))
 
 pub verdict-spec : {M : Type 1} → statement M
 verdict-spec =

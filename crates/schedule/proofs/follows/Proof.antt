@@ -1,72 +1,127 @@
+-- `schedule::follows` meets its contract: each return cites the law of its case. Assumes nothing.
+use Prim.Native.Nat.{_/_, _≤_}
+use mathlib.Core.Path.{_≡_, sym, _∙_}
+use mathlib.Core.Bool.{true}
+use native.Mathlib.Omega.{arith}
 use borrow.Author.Needs.{needs}
+use borrow.Author.Tests.{not-true, not-false}
+use lib.ListN.{length}
+use Rattle.model.specs.Recording.{decodeAll}
+use Rattle.laws.proofs.Questions.{events-sound}
+use Rattle.schedule.specs.Next.{isNext}
+use Rattle.schedule.proofs.Laws.{acquire-lock}
+use Rattle.schedule.proofs.Asking.{asked-none, event-in, asked-later, asked-read, asked-other}
+use Rattle.schedule.proofs.Asking.{asked-acquire}
 use Rattle.schedule.proofs.follows.Statement.{statement}
 use Rattle.schedule.proofs.follows.Tie as tie
-use Rattle.schedule.proofs.follows.Reads as reads
-use Rattle.schedule.proofs.follows.Lts as lts
-use Rattle.recording.proofs.object.Reads as object-reads
-use Rattle.recording.proofs.operation.Reads as operation-reads
-use Rattle.schedule.proofs.is_next.Reads as is-next-reads
-use Rattle.schedule.proofs.is_unlocked.Reads as is-unlocked-reads
 
--- src/lib.rt:90:9
+-- The number is that of an event.
+inside : (c : tie.Else2) → let a = c .before .before .before .before .before .before .before .before
+    .before .args in
+    (1 ≤ a .e) × (a .e ≤ length (a .records .now) / 2)
+inside c = omega (arith, c .before .if1 .left, c .if2 .left)
+
+-- The event comes next in its task.
+next : (c : tie.Else3) → let a = c .before .before .before .before .before .before .before .before .before
+    .before .before .args in
+    isNext (decodeAll (a .records .now)) (a .last .now) (a .e) ≡ true
+next c = sym (c .before .is-next .ensures) ∙ not-false (c .before .is-next .result) (c .if3 .left)
+
 returns : tie.Need-returns
-returns c = ?
+returns c =
+    let s = c .before .before .before .before .before .before .before .before in
+    asked-none _ _ _ _ (s .args .e) (omega (arith, c .if1 .taken))
 
--- src/lib.rt:94:9
 returns-2 : tie.Need-returns-2
-returns-2 c = ?
+returns-2 c =
+    let s = c .before .before .before .before .before .before .before .before .before in
+    asked-none _ _ _ _ (s .args .e) (omega (arith, c .if2 .taken))
 
--- src/lib.rt:96:9
 is-next-requires : tie.Need-is-next-requires
-is-next-requires c κs = ?
+is-next-requires c κs =
+    let s = c .before .before .before .before .before .before .before .before .before in
+    let (h, k) = event-in (s .args .records .now) (s .args .e) (inside c) in (
+      h,
+      omega (arith, inside c),
+      s .pre .0,
+      s .pre .2 .predecessor-long,
+      s .pre .3 .last-long,
+      s .pre .2 .predecessor-at (s .args .e) h k,
+    )
 
--- src/lib.rt:97:9
 returns-3 : tie.Need-returns-3
-returns-3 c = ?
+returns-3 c =
+    let s = c .before .before .before .before .before .before .before .before .before .before .before in
+    let n = sym (c .before .is-next .ensures) ∙ not-true (c .before .is-next .result) (c .if3 .taken) in
+    asked-later (s .args .records .now) (s .pre .1) _ _ _ (s .args .e) (inside (c .before .before)) n
 
--- src/lib.rt:99:9
 operation-requires : tie.Need-operation-requires
 operation-requires c κs = search needs
 
--- src/lib.rt:101:23
 object-requires : tie.Need-object-requires
 object-requires c κs = search needs
 
--- src/lib.rt:101:23
 cast-result : tie.Need-cast-result
 cast-result c = search needs
 
--- src/lib.rt:101:16
 mul-result : tie.Need-mul-result
 mul-result c = search needs
 
--- src/lib.rt:101:16
 shared-slice-read-result : tie.Need-shared-slice-read-result
 shared-slice-read-result c = search needs
 
--- src/lib.rt:101:67
 mul-result-2 : tie.Need-mul-result-2
 mul-result-2 c = search needs
 
--- src/lib.rt:101:67
 shared-slice-read-result-2 : tie.Need-shared-slice-read-result-2
 shared-slice-read-result-2 c = search needs
 
--- src/lib.rt:101:9
 returns-4 : tie.Need-returns-4
-returns-4 c = ?
+returns-4 c =
+    let s = c .before .before .before .before .before .before .before .before .before .before .before
+    .before .before .before .before .before in
+    let i = inside (c .before .before .before .before .before .before .before) in
+    let (h, k) = event-in (s .args .records .now) (s .args .e) i in
+    asked-read (s .args .records .now) (s .pre .1) _ _ _ (s .args .e) i
+    (next (c .before .before .before .before .before)) _
+    (c .before .before .before .before .operation .ensures .1) (c .before .before .before .if4 .taken) _ _
+    (c .before .before .object .ensures)
+    (s .pre .2 .writer-at (s .args .e) h k)
 
--- src/lib.rt:104:9
 returns-5 : tie.Need-returns-5
-returns-5 c = ?
+returns-5 c =
+    let s = c .before .before .before .before .before .before .before .before .before .before .before
+    .before .before .before in
+    asked-other (s .args .records .now) (s .pre .1) _ _ _ (s .args .e)
+    (inside (c .before .before .before .before .before)) (next (c .before .before .before)) _
+    (c .before .before .operation .ensures .1) (c .before .if4 .left) (c .if5 .taken)
 
--- src/lib.rt:106:5
 is-unlocked-requires : tie.Need-is-unlocked-requires
-is-unlocked-requires c κs = ?
+is-unlocked-requires c κs =
+    let s = c .before .before .before .before .before .before .before .before .before .before .before
+    .before .before .before in
+    let b = s .args .records .now in
+    let lock = acquire-lock (decodeAll b) (events-sound b (s .pre .1)) (s .args .e) _
+    (c .before .before .operation .ensures .1) (c .if5 .left) in (
+      inside (c .before .before .before .before .before) .0,
+      omega (arith, inside (c .before .before .before .before .before)),
+      s .pre .0,
+      s .pre .2 .matching-long,
+      s .pre .3 .last-long,
+      s .pre .3 .acquire-long,
+      lock,
+      s .pre .3 .acquire-small _ lock,
+      s .pre .2 .matching-at,
+    )
 
--- src/lib.rt:72:1
 returns-6 : tie.Need-returns-6
-returns-6 c = ?
+returns-6 c =
+    let s = c .before .before .before .before .before .before .before .before .before .before .before
+    .before .before .before .before in
+    asked-acquire (s .args .records .now) (s .pre .1) _ _ _ (s .args .e)
+    (inside (c .before .before .before .before .before .before))
+    (next (c .before .before .before .before)) _
+    (c .before .before .before .operation .ensures .1) (c .before .if5 .left) _ (c .is-unlocked .ensures)
 
 pub follows-spec : {M : Type 1} → statement M
 follows-spec =

@@ -1,47 +1,70 @@
+-- `schedule::leaves_next` meets its contract: the events before number i of the pattern are next, so the rest
+-- decides. Assumes nothing.
+use Prim.Native.Nat.{_-_, _/_, _≤_}
+use mathlib.Core.Path.{refl}
+use native.Mathlib.Omega.{arith}
+use borrow.Author.Needs.{needs}
+use borrow.Author.Tests.{not-true, not-false}
+use lib.ListN.{length}
+use Rattle.model.specs.Recording.{decodeAll}
+use Rattle.schedule.specs.Next.{isNext}
+use Rattle.schedule.proofs.Pattern.{pattern-in, Passing, passing-stop, passing-next, passing-end}
 use Rattle.schedule.proofs.leaves_next.Statement.{statement}
 use Rattle.schedule.proofs.leaves_next.Tie as tie
-use Rattle.schedule.proofs.leaves_next.Reads as reads
-use Rattle.schedule.proofs.leaves_next.Lts as lts
-use Rattle.schedule.proofs.is_next.Reads as is-next-reads
-use Rattle.schedule.proofs.number.Reads as number-reads
 
 abbrev Inv-loop : tie.InvT-loop
-Inv-loop records predecessors pattern last i₀ i = ?
+Inv-loop records predecessors pattern last i₀ i =
+    (i ≤ length pattern / 2) × Passing (isNext (decodeAll records) last) pattern i
 
 abbrev μ-loop : tie.MeasureT-loop
-μ-loop records predecessors pattern last i₀ i = ?
+μ-loop records predecessors pattern last i₀ i =
+    length pattern / 2 - i
 
--- src/lib.rt:173:5
 loop-holds : tie.Need-loop-holds Inv-loop μ-loop
-loop-holds c = ?
+loop-holds c = (omega arith, refl)
 
--- src/lib.rt:174:50
 number-requires : tie.Need-number-requires Inv-loop μ-loop
-number-requires c κs = ?
+number-requires c κs = search needs
 
--- src/lib.rt:174:13
 is-next-requires : tie.Need-is-next-requires Inv-loop μ-loop
-is-next-requires c κs = ?
+is-next-requires c κs =
+    let s = c .before .before .before .before .before .before .before in
+    let (h, k, j) = pattern-in (s .args .records .now) (s .args .pattern .now)
+    (c .before .before .loop .i) (s .pre .3)
+    (c .before .loop-test .taken) _ (c .number .ensures) in
+    (h, j, s .pre .0, s .pre .1, s .pre .2, s .pre .4 _ h k)
 
--- src/lib.rt:175:13
 returns : tie.Need-returns Inv-loop μ-loop
-returns c = ?
+returns c =
+    let s = c .before .before .before .before .before .before .before .before .before in
+    let k = c .before .before .before .before .loop in
+    passing-stop _ (s .args .pattern .now) (k .i) (k .inv .1)
+    (c .before .before .before .loop-test .taken) _
+    (c .before .before .number .ensures) _ (c .before .is-next .ensures)
+    (not-true (c .before .is-next .result) (c .if1 .taken))
 
--- src/lib.rt:177:13
 add-i : tie.Need-add-i Inv-loop μ-loop
-add-i c = ?
+add-i c = search needs
 
--- src/lib.rt:173:5
 loop-less : tie.Need-loop-less Inv-loop μ-loop
-loop-less c = ?
+loop-less c = search needs
 
--- src/lib.rt:173:5
 loop-again : tie.Need-loop-again Inv-loop μ-loop
-loop-again c = ?
+loop-again c =
+    let s = c .before .before .before .before .before .before .before .before .before in
+    let k = c .before .before .before .before .loop in
+    let passes = not-false (c .before .is-next .result) (c .if1 .left) in (
+      search needs,
+      passing-next _ (s .args .pattern .now) (k .i) (k .inv .1)
+          (c .before .before .before .loop-test .taken) _
+          (c .before .before .number .ensures) _ (c .before .is-next .ensures) passes,
+    )
 
--- src/lib.rt:164:1
 returns-2 : tie.Need-returns-2 Inv-loop μ-loop
-returns-2 c = ?
+returns-2 c =
+    let s = c .before .before .before .before .before .before in
+    let k = c .before .loop in
+    passing-end _ (s .args .pattern .now) (k .i) (k .inv .1) (c .loop-test .left)
 
 pub leaves-next-spec : {M : Type 1} → statement M
 leaves-next-spec =

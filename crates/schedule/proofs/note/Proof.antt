@@ -1,87 +1,98 @@
+-- `schedule::note` meets its contract: each return cites the law of its case. Assumes nothing.
+use native.Mathlib.Omega.{arith}
 use borrow.Author.Needs.{needs}
+use Rattle.model.specs.Recording.{decodeAll}
+use Rattle.laws.proofs.Questions.{events-sound}
+use Rattle.schedule.proofs.Laws.{acquire-lock}
+use Rattle.schedule.proofs.Noting.{Unpacked, write-noted, acquire-noted, other-noted}
 use Rattle.schedule.proofs.note.Statement.{statement}
 use Rattle.schedule.proofs.note.Tie as tie
-use Rattle.schedule.proofs.note.Reads as reads
-use Rattle.schedule.proofs.note.Lts as lts
-use Rattle.recording.proofs.object.Reads as object-reads
-use Rattle.recording.proofs.operation.Reads as operation-reads
-use Rattle.recording.proofs.task.Reads as task-reads
 
--- src/lib.rt:121:10
+-- The event as it was unpacked.
+unpacked : (c : tie.After-object) → let a =
+    c .before .before .before .before .before .before .before .args in
+    Unpacked (decodeAll (a .records .now)) (a .e) (c .before .operation .result)
+    (c .before .before .task .result)
+    (c .object .result)
+unpacked c = record {
+  op-is = c .before .operation .ensures;
+  task-is = c .before .before .task .ensures;
+  object-is = c .object .ensures;
+}
+
 task-requires : tie.Need-task-requires
 task-requires c κs = search needs
 
--- src/lib.rt:121:10
 cast-last : tie.Need-cast-last
 cast-last c = search needs
 
--- src/lib.rt:121:5
 mul-last : tie.Need-mul-last
 mul-last c = search needs
 
--- src/lib.rt:121:5
 slice-write-last : tie.Need-slice-write-last
 slice-write-last c = search needs
 
--- src/lib.rt:122:9
 operation-requires : tie.Need-operation-requires
 operation-requires c κs = search needs
 
--- src/lib.rt:123:18
 object-requires : tie.Need-object-requires
 object-requires c κs = search needs
 
--- src/lib.rt:123:18
 cast-object : tie.Need-cast-object
 cast-object c = search needs
 
--- src/lib.rt:125:9
 mul-writes : tie.Need-mul-writes
 mul-writes c = search needs
 
--- src/lib.rt:125:9
 slice-write-writes : tie.Need-slice-write-writes
 slice-write-writes c = search needs
 
--- src/lib.rt:126:9
 same-length : tie.Need-same-length
 same-length c = search needs
 
--- src/lib.rt:126:9
 same-length-2 : tie.Need-same-length-2
 same-length-2 c = search needs
 
--- src/lib.rt:126:9
 returns : tie.Need-returns
-returns c = ?
+returns c =
+    let s = c .before .before .before .before .before .before .before .before in
+    λ before z t. write-noted _ (events-sound (s .args .records .now) (s .pre .2)) (unpacked (c .before))
+    before
+    _ _ _ z t (c .if1 .taken)
 
--- src/lib.rt:129:9
 mul-acquires : tie.Need-mul-acquires
 mul-acquires c = search needs
 
--- src/lib.rt:129:9
 slice-write-acquires : tie.Need-slice-write-acquires
-slice-write-acquires c = ?
+slice-write-acquires c =
+    let s = c .before .before .before .before .before .before .before .before .before in
+    let b = s .args .records .now in
+    let lock = acquire-lock (decodeAll b) (events-sound b (s .pre .2)) (s .args .e) _
+    (c .before .before .before .operation .ensures .1) (c .if2 .taken) in
+    omega (arith, lock, c .before .before .object .ensures, s .pre .3 .acquire-long)
 
--- src/lib.rt:111:1
 same-length-3 : tie.Need-same-length-3
 same-length-3 c = search needs
 
--- src/lib.rt:111:1
 same-length-4 : tie.Need-same-length-4
 same-length-4 c = search needs
 
--- src/lib.rt:111:1
 returns-2 : tie.Need-returns-2
-returns-2 c = ?
+returns-2 c =
+    let s = c .before .before .before .before .before .before .before .before .before in
+    λ before z t. acquire-noted _ (events-sound (s .args .records .now) (s .pre .2))
+    (unpacked (c .before .before)) before
+    _ _ _ z t (c .if2 .taken)
 
--- src/lib.rt:111:1
 same-length-5 : tie.Need-same-length-5
 same-length-5 c = search needs
 
--- src/lib.rt:111:1
 returns-3 : tie.Need-returns-3
-returns-3 c = ?
+returns-3 c =
+    let s = c .before .before .before .before .before .before .before .before .before in
+    λ before z t. other-noted _ (events-sound (s .args .records .now) (s .pre .2))
+    (unpacked (c .before .before)) before
+    _ _ _ z t (c .before .if1 .left) (c .if2 .left)
 
 pub note-spec : {M : Type 1} → statement M
 note-spec =

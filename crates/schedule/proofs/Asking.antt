@@ -1,0 +1,128 @@
+-- The tests as the code asks them of the tables and the records, case by case. Assumes nothing.
+use Prim.Native.Nat.{ℕ, _*_, _/_, _≤_, _<_}
+use mathlib.Core.Path.{_≡_, _∙_}
+use mathlib.Core.Logic.{_≢_}
+use mathlib.Core.Bool.{Bool, true, false}
+use mathlib.Core.List.{List}
+use native.Mathlib.Omega.{arith}
+use lib.Dec.{eqb, leb}
+use lib.ListN.{length, getD}
+use borrow.Author.Tests.{eq-eqb, ne-eqb, le-leb, lt-leb}
+use Rattle.model.specs.Trace.{Trace, tasks, at, task, object}
+use Rattle.model.specs.Relations.{predecessor, writer, matching}
+use Rattle.model.specs.Recording.{decodeAll}
+use Rattle.model.specs.Schedule.{mayFollow}
+use Rattle.model.specs.Calls.Check.{checkEvents}
+use Rattle.laws.proofs.Trace.{decodeAll-length}
+use Rattle.laws.proofs.Relations.{matching-le}
+use Rattle.laws.proofs.Faults.{isRead-op, isAcquire-op}
+use Rattle.laws.proofs.Questions.{events-sound}
+use Rattle.recording.specs.Asked.{variables}
+use Rattle.schedule.specs.Listed.{Listed}
+use Rattle.schedule.specs.Next.{isListed, isNext, isUnlocked}
+use Rattle.schedule.proofs.Laws.{acquire-lock, no-event, not-next, read-follows, acquire-follows}
+use Rattle.schedule.proofs.Laws.{other-follows}
+
+-- ---- one table
+
+module _ (σ : Trace) (last : List ℕ) (e : ℕ) where
+  -- 0 is not listed.
+  pub listed-none : e ≡ 0 → false ≡ isListed σ last e
+  unfolding isListed
+  listed-none q = rw (eq-eqb e 0 q)
+
+  -- Another number is where the latest listed event of its task reaches it.
+  pub listed-some : (t : ℕ) → t ≡ task σ e → e ≢ 0 → leb e (getD last t 0) ≡ isListed σ last e
+  unfolding isListed
+  listed-some t q d = rw (ne-eqb e 0 d, q)
+
+  -- An event is next where its predecessor is the latest listed event of its task.
+  pub next-is : (p t : ℕ) → p ≡ predecessor σ e → t ≡ task σ e → eqb p (getD last t 0) ≡ isNext σ last e
+  unfolding isNext
+  next-is p t q r = rw (q, r)
+
+  module _ (acquires : List ℕ) (o : ℕ) (is : o ≡ object σ e) where
+    -- A lock of which no acquire is listed.
+    pub unlocked-first : getD acquires o 0 ≡ 0 → true ≡ isUnlocked σ last acquires e
+    unfolding isUnlocked
+    unlocked-first q = rw (← is, eq-eqb (getD acquires o 0) 0 q)
+
+    -- A lock that a later acquire took.
+    pub unlocked-late : getD acquires o 0 ≢ 0 → e ≤ getD acquires o 0 → false ≡ isUnlocked σ last acquires e
+    unfolding isUnlocked
+    unlocked-late d h = rw (← is, ne-eqb (getD acquires o 0) 0 d, le-leb e (getD acquires o 0) h)
+
+    -- A lock that earlier acquires took: the match of the latest one decides.
+    pub unlocked-matched : (m : ℕ) → m ≡ matching σ (getD acquires o 0) → getD acquires o 0 ≢ 0
+        → getD acquires o 0 < e → isListed σ last m ≡ isUnlocked σ last acquires e
+    unfolding isUnlocked
+    unlocked-matched m q d h =
+        rw (← is, ne-eqb (getD acquires o 0) 0 d, lt-leb e (getD acquires o 0) h, q)
+
+    -- The latest listed acquire of the lock is an event, and its match stands in the table.
+    pub latest-matched : (matches : List ℕ) → getD acquires (object σ e) 0 ≤ length σ
+        → ((f : ℕ) → 1 ≤ f → f ≤ length σ → getD matches f 0 ≡ matching σ f) → getD acquires o 0 ≢ 0
+        → (getD acquires o 0 ≤ length σ)
+        × (getD matches (getD acquires o 0) 0 ≡ matching σ (getD acquires o 0))
+    latest-matched matches small matching-at d =
+        let small = rw (← is) at small in (small, matching-at (getD acquires o 0) (omega arith) small)
+
+-- The match of an event of the records is one of them, or 0.
+pub matching-in : (b : List ℕ) (e m : ℕ) → m ≡ matching (decodeAll b) e → e ≤ length (decodeAll b)
+    → 2 * m ≤ length b
+matching-in b e m q h = omega (arith, matching-le (decodeAll b) e h, decodeAll-length b)
+
+-- ---- one event more
+
+-- What the code answers for event e is the definition's answer, whatever is listed.
+abbrev pub Answers : Trace → List ℕ → List ℕ → List ℕ → ℕ → Bool → Type 0
+Answers σ last acquires writes e r =
+    (before : List ℕ) → Listed σ before last acquires writes → r ≡ mayFollow σ before e
+
+-- 0 and numbers past the end are not listed.
+pub asked-none : (b last acquires writes : List ℕ) (e : ℕ) → ((1 ≤ e) × (e ≤ length b / 2) → ⊥)
+    → Answers (decodeAll b) last acquires writes e false
+asked-none b last acquires writes e n before z =
+    no-event (decodeAll b) before e (λ h. n (omega (arith, decodeAll-length b)))
+
+-- Other numbers are those of the events.
+pub event-in : (b : List ℕ) (e : ℕ) → (1 ≤ e) × (e ≤ length b / 2) → (1 ≤ e) × (e ≤ length (decodeAll b))
+event-in b e h = omega (arith, decodeAll-length b)
+
+module _ (b : List ℕ) (accepted : checkEvents (decodeAll b) .refusal ≡ 0) (last acquires writes : List ℕ)
+    (e : ℕ) (within : (1 ≤ e) × (e ≤ length b / 2)) where
+  inside : (1 ≤ e) × (e ≤ length (decodeAll b))
+  inside = event-in b e within
+
+  small : task (decodeAll b) e < tasks
+  small = events-sound b accepted .task-lt e (inside .0) (inside .1)
+
+  -- An event that does not come next in its task.
+  pub asked-later : isNext (decodeAll b) last e ≡ false → Answers (decodeAll b) last acquires writes e false
+  asked-later n before z = not-next (decodeAll b) before last acquires writes z e inside small n
+
+  module _ (n : isNext (decodeAll b) last e ≡ true) (op : ℕ) (is-op : op ≡ at (decodeAll b) e .op) where
+    -- A read.
+    pub asked-read : op ≡ 0 → (o w : ℕ) → (o < variables) × (o ≡ object (decodeAll b) e)
+        → w ≡ writer (decodeAll b) e
+        → Answers (decodeAll b) last acquires writes e (eqb (getD writes o 0) w)
+    asked-read r o w is-object is-writer before z =
+        rw (is-object .1, is-writer)
+        (read-follows (decodeAll b) before last acquires writes z e inside small n
+        (isRead-op (decodeAll b) e is-op ∙ eq-eqb op 0 r)
+        (isAcquire-op (decodeAll b) e is-op ∙ ne-eqb op 2 (omega arith)) (omega arith))
+
+    -- A write or a release.
+    pub asked-other : op ≢ 0 → op ≢ 2 → Answers (decodeAll b) last acquires writes e true
+    asked-other r a before z =
+        other-follows (decodeAll b) before last acquires writes z e inside small n
+        (isRead-op (decodeAll b) e is-op ∙ ne-eqb op 0 r) (isAcquire-op (decodeAll b) e is-op ∙ ne-eqb op 2 a)
+
+    -- An acquire.
+    pub asked-acquire : op ≡ 2 → (r : Bool) → r ≡ isUnlocked (decodeAll b) last acquires e
+        → Answers (decodeAll b) last acquires writes e r
+    asked-acquire a r is before z =
+        is ∙ acquire-follows (decodeAll b) before last acquires writes z e inside small n
+        (isRead-op (decodeAll b) e is-op ∙ ne-eqb op 0 (omega arith))
+        (isAcquire-op (decodeAll b) e is-op ∙ eq-eqb op 2 a)
+        (acquire-lock (decodeAll b) (events-sound b accepted) e op is-op a)
