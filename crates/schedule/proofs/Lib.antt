@@ -5,3 +5,4 @@ pub mod Noting
 pub mod Walk
 pub mod Pattern
 pub mod Witness
+pub mod Answers

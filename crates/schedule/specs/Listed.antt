@@ -3,13 +3,16 @@
 use Prim.Native.Nat.{ℕ, _≤_, _<_}
 use mathlib.Core.Path.{_≡_}
 use mathlib.Core.Logic.{_≢_}
+use mathlib.Core.Bool.{cond, _&&_}
 use mathlib.Core.List.{List, List·Memᴰ}
 use lib.Dec.{T, leb}
 use lib.ListN.{length, getD}
 use Rattle.model.specs.Lists.{member}
+use Rattle.model.specs.Bytes.{numbers, isWhole}
 use Rattle.model.specs.Trace.{Trace, tasks, locks, task, object, isAcquire}
 use Rattle.model.specs.Relations.{predecessor, writer, matching}
-use Rattle.model.specs.Schedule.{latestWrite}
+use Rattle.model.specs.Pattern.{isPattern}
+use Rattle.model.specs.Schedule.{latestWrite, witnesses}
 use Rattle.laws.specs.Frontier.{Frontier}
 use Rattle.recording.specs.Asked.{variables}
 
@@ -55,3 +58,11 @@ pub record Ready (σ : Trace) (last acquires writes : List ℕ) : Type 0 where
   pub acquire-long : length acquires ≡ locks
   pub write-long : length writes ≡ variables
   pub acquire-small : (l : ℕ) → l < locks → getD acquires l 0 ≤ length σ
+
+-- What is decided of the bytes of a pattern and a schedule: 0 for no pattern (question 10 is answered "no"),
+-- 1
+-- for the checker's "no", 2 for its "yes".
+unfoldable pub answered : Trace → List ℕ → List ℕ → ℕ
+answered σ p ρ =
+    cond (isWhole p && isPattern σ (numbers p)) (cond (isWhole ρ && witnesses σ (numbers ρ) (numbers p)) 2
+    1) 0

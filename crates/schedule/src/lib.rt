@@ -13,7 +13,9 @@ ghost use Rattle.model.specs.Recording.{decodeAll};
 ghost use Rattle.model.specs.Bytes.{numbers, isWhole};
 ghost use Rattle.model.specs.Schedule.{mayFollow, syncPreserving, witnesses};
 ghost use Rattle.model.specs.Calls.Check.{checkEvents};
-ghost use Rattle.schedule.specs.Listed.{Checking, UpTo, Listed, Ready};
+ghost use Rattle.model.specs.Calls.CheckSchedule.{checkSchedule};
+ghost use Rattle.deadlock.specs.Judged.{Holding};
+ghost use Rattle.schedule.specs.Listed.{Checking, UpTo, Listed, Ready, answered};
 ghost use Rattle.schedule.specs.Next.{isListed, isNext, isUnlocked};
 
 // Whether event e is listed: not 0, and no later than the latest listed event of its task.
@@ -207,4 +209,89 @@ pub fn witnessed(
         return false;
     }
     leaves_next(records, predecessors, pattern, &last)
+}
+
+// Decides the bytes of a pattern and a schedule: 0 where the first are no pattern, 1 for "no", 2 for "yes".
+fn decide(
+    records: &[u8],
+    holding: &[u64],
+    predecessors: &[u16],
+    writers: &[u16],
+    matches: &[u16],
+    pattern: &[u8],
+    schedule: &[u8],
+) -> u64
+    requires { ⌜ (length (now records) ≤ 8190) × (checkEvents (decodeAll (now records)) .refusal ≡ 0)
+        × Holding (decodeAll (now records)) (now holding)
+        × Checking (decodeAll (now records)) (now predecessors) (now writers) (now matches) ⌝ }
+    ensures { λ r. ⌜ r ≡ answered (decodeAll (now (records .entry))) (now (pattern .entry)) (now (schedule .entry)) ⌝ }
+{
+    if !deadlock::lends_pattern(records, holding, pattern) {
+        return 0;
+    }
+    if witnessed(records, predecessors, writers, matches, pattern, schedule) {
+        return 2;
+    }
+    1
+}
+
+// Decides them with tables of its own.
+fn judge(records: &[u8], pattern: &[u8], schedule: &[u8]) -> u64
+    requires { ⌜ (length (now records) ≤ 8190) × (checkEvents (decodeAll (now records)) .refusal ≡ 0) ⌝ }
+    ensures { λ r. ⌜ r ≡ answered (decodeAll (now (records .entry))) (now (pattern .entry)) (now (schedule .entry)) ⌝ }
+{
+    let mut operations = [0u8; 4096];
+    let mut tasks = [0u8; 4096];
+    let mut objects = [0u16; 4096];
+    let mut holding = [0u64; 4096];
+    let mut predecessors = [0u16; 4096];
+    let mut writers = [0u16; 4096];
+    let mut matches = [0u16; 4096];
+    relations::fill_tables(
+        records,
+        &mut operations,
+        &mut tasks,
+        &mut objects,
+        &mut holding,
+        &mut predecessors,
+        &mut writers,
+        &mut matches,
+    );
+    decide(
+        records,
+        &holding,
+        &predecessors,
+        &writers,
+        &matches,
+        pattern,
+        schedule,
+    )
+}
+
+// Checks a proposed schedule for a lent pattern: question 10, then whether the schedule is order-keeping and
+// leaves every event of the pattern next.
+pub fn check_schedule(recording: &[u8], pattern: &[u8], schedule: &[u8]) -> model::Checked
+    ensures { λ r. ⌜ r ≡ checkSchedule (now (recording .entry)) (now (pattern .entry)) (now (schedule .entry)) ⌝ }
+{
+    let checked = recording::check(recording);
+    if checked.refusal != 0 {
+        return model::Checked {
+            refusal: checked.refusal,
+            event: checked.event,
+            valid: false,
+        };
+    }
+    let decided = judge(&recording[2..], pattern, schedule);
+    if decided == 0 {
+        return model::Checked {
+            refusal: 10,
+            event: 0,
+            valid: false,
+        };
+    }
+    model::Checked {
+        refusal: 0,
+        event: 0,
+        valid: decided == 2,
+    }
 }

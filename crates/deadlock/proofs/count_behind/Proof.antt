@@ -68,7 +68,8 @@ loop-again c =
             ap length (behind-more σ front (k .e) (k .inv .0) (sym is ∙ w .0 .taken)),
             length-append old (k .e ∷ []),
           ))
-          (λ w. w .1 ∙ k .inv .2 ∙ ap length (sym (behind-same σ front (k .e) (k .inv .0) (sym is ∙ w .0 .left))))
+          (λ w. w .1 ∙ k .inv .2 ∙ ap length (sym (behind-same σ front (k .e) (k .inv .0)
+          (sym is ∙ w .0 .left))))
           (c .if1 .came),
     )
 

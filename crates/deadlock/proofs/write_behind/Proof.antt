@@ -76,8 +76,14 @@ returns c =
     let s = c .before .before .before .before .before in
     let k = c .before .loop in
     let σ = decodeAll (s .args .records .now) in
-    let last : k .e ≡ length σ + 1 = omega (arith, c .loop-test .left, decodeAll-length (s .args .records .now)) in
-    k .inv .4 ∙ ap (λ (e : ℕ). sets (s .args .out .now) 0 (encode (behindBelow σ (s .args .front .now) e))) last
+    let last : k .e ≡ length σ + 1 = omega (
+      arith,
+      c .loop-test .left,
+      decodeAll-length
+          (s .args .records .now),
+    ) in
+    k .inv .4 ∙ ap (λ (e : ℕ). sets (s .args .out .now) 0 (encode (behindBelow σ (s .args .front .now) e)))
+    last
 
 pub write-behind-spec : {M : Type 1} → statement M
 write-behind-spec =

@@ -17,7 +17,8 @@ use Rattle.deadlock.proofs.write_one.Tie as tie
 in-set : (c : tie.Else1)
     → leb (c .before .before .before .before .before .args .e)
     (getD (c .before .before .before .before .before .args .front .now)
-    (task (decodeAll (c .before .before .before .before .before .args .records .now)) (c .before .before .before .before .before .args .e)) 0)
+    (task (decodeAll (c .before .before .before .before .before .args .records .now))
+    (c .before .before .before .before .before .args .e)) 0)
     ≡ true
 in-set c = sym (c .before .contains .ensures) ∙ not-false _ (c .if1 .left)
 
@@ -38,7 +39,8 @@ put-number-requires c κs =
 
 add-result : tie.Need-add-result
 add-result c =
-    let s = c .before .before .before .before .before .before .before .before .before in omega (arith, rw (in-set (c .before .before .before .before)) at (s .pre .4))
+    let s = c .before .before .before .before .before .before .before .before .before in omega
+    (arith, rw (in-set (c .before .before .before .before)) at (s .pre .4))
 
 same-length : tie.Need-same-length
 same-length c = search needs
