@@ -1,4 +1,5 @@
-// Entries for measuring: the check alone, and the check with the tables of every event filled after it.
+// Entries for measuring: the check alone, the check with the tables of every event filled after it, and the
+// decision on one pattern many times over.
 ghost use Prim.Native.Nat.{_<_, _≤_};
 ghost use mathlib.Core.Path.{_≡_};
 ghost use mathlib.Core.Bool.{cond};
@@ -6,6 +7,8 @@ ghost use lib.ListN.{length};
 ghost use Rattle.model.specs.Recording.{decodeAll};
 ghost use Rattle.model.specs.Calls.Questions.{isAccepted};
 ghost use Rattle.model.specs.Calls.Check.{checkEvents, check};
+ghost use Rattle.closure.specs.Visit.{Needed};
+ghost use Rattle.deadlock.specs.Judged.{Holding};
 
 // Checks a recording: its refusal.
 #[no_mangle]
@@ -67,4 +70,63 @@ pub extern "C" fn timed_tables(recording: &[u8]) -> u64
     }
     let n = recording::event_count(recording);
     compare_entries(&recording[2..], n)
+}
+
+// Decides the pattern again and again with tables that are filled: what was decided last.
+fn decide_often(
+    records: &[u8],
+    holding: &[u64],
+    predecessors: &[u16],
+    writers: &[u16],
+    matches: &[u16],
+    pattern: &[u8],
+    rounds: u64,
+) -> u64
+    requires { ⌜ (length (now records) ≤ 8190) × (checkEvents (decodeAll (now records)) .refusal ≡ 0)
+        × Holding (decodeAll (now records)) (now holding)
+        × Needed (decodeAll (now records)) (now predecessors) (now writers) (now matches) ⌝ }
+{
+    let mut decided = 0;
+    let mut i = 0;
+    while i < rounds {
+        let mut front = [0u16; 16];
+        decided = deadlock::decide(records, holding, predecessors, writers, matches, pattern, &mut front);
+        i = i + 1;
+    }
+    decided
+}
+
+// Fills the tables of records whose events are accepted, and decides the pattern again and again.
+fn decide_with_tables(records: &[u8], pattern: &[u8], rounds: u64) -> u64
+    requires { ⌜ (length (now records) ≤ 8190) × (checkEvents (decodeAll (now records)) .refusal ≡ 0) ⌝ }
+{
+    let mut operations = [0u8; 4096];
+    let mut tasks = [0u8; 4096];
+    let mut objects = [0u16; 4096];
+    let mut holding = [0u64; 4096];
+    let mut predecessors = [0u16; 4096];
+    let mut writers = [0u16; 4096];
+    let mut matches = [0u16; 4096];
+    relations::fill_tables(
+        records,
+        &mut operations,
+        &mut tasks,
+        &mut objects,
+        &mut holding,
+        &mut predecessors,
+        &mut writers,
+        &mut matches,
+    );
+    decide_often(records, &holding, &predecessors, &writers, &matches, pattern, rounds)
+}
+
+// Decides the lent pattern so many times, with the recording checked and its tables filled once: 0 for no pattern
+// or no accepted recording, 1 for "not", 2 for deadlock.
+#[no_mangle]
+pub extern "C" fn timed_verdicts(recording: &[u8], pattern: &[u8], rounds: u64) -> u64 {
+    let checked = recording::check(recording);
+    if checked.refusal != 0 {
+        return 0;
+    }
+    decide_with_tables(&recording[2..], pattern, rounds)
 }
