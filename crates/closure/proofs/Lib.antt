@@ -1,6 +1,5 @@
--- Laws of visiting an event and of turns; each function's proof is in a folder of its own.
-pub mod Visits
-pub mod Turning
-pub mod Totals
-pub mod Rounds
-pub mod Tabled
+-- Laws of sets in words and of the closure call's answers; each function's proof is in a folder of its own.
+pub mod Sets
+pub mod Steps
+pub mod Tops
+pub mod Answers

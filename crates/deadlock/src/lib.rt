@@ -18,7 +18,7 @@ ghost use Rattle.model.specs.Calls.Witness.{witness, witnessOut};
 ghost use Rattle.laws.specs.Answered.{refusedWitness};
 ghost use Rattle.laws.specs.Chain.{signature, start, fits, completing, chainOf};
 ghost use Rattle.laws.specs.Frontier.{Before};
-ghost use Rattle.closure.specs.Visit.{Needed};
+ghost use Rattle.frontier.specs.Visit.{Needed};
 ghost use Rattle.deadlock.specs.Judged.{Holding, judged, Reached, behindAt, behind};
 
 // Lock l is in the mask.
@@ -146,7 +146,7 @@ fn reach(
     let mut i = 0;
     while i < pattern.len() / 2 {
         let e = recording::number(pattern, i) as usize;
-        closure::extend(
+        frontier::extend(
             records,
             predecessors,
             writers,
@@ -168,7 +168,7 @@ fn avoids(records: &[u8], pattern: &[u8], front: &[u16]) -> bool
 {
     let mut i = 0;
     while i < pattern.len() / 2 {
-        if closure::contains(records, front, recording::number(pattern, i) as usize) {
+        if frontier::contains(records, front, recording::number(pattern, i) as usize) {
             return false;
         }
         i = i + 1;
@@ -287,7 +287,7 @@ fn count_behind(records: &[u8], front: &[u16]) -> u64
     let mut count = 0;
     let mut e = 1;
     while e <= records.len() / 2 {
-        if closure::contains(records, front, e) {
+        if frontier::contains(records, front, e) {
             count = count + 1;
         }
         e = e + 1;
@@ -303,7 +303,7 @@ fn write_one(records: &[u8], front: &[u16], out: &mut [u8], at: usize, e: usize)
         × (now (out .exit)
         ≡ sets (now (out .entry)) at (encode (behindAt (decodeAll (now (records .entry))) (now (front .entry)) e))) ⌝ }
 {
-    if !closure::contains(records, front, e) {
+    if !frontier::contains(records, front, e) {
         return at;
     }
     recording::put_number(out, at, e as u16);

@@ -7,7 +7,7 @@ ghost use lib.ListN.{length};
 ghost use Rattle.model.specs.Recording.{decodeAll};
 ghost use Rattle.model.specs.Calls.Questions.{isAccepted};
 ghost use Rattle.model.specs.Calls.Check.{checkEvents, check};
-ghost use Rattle.closure.specs.Visit.{Needed};
+ghost use Rattle.frontier.specs.Visit.{Needed};
 ghost use Rattle.deadlock.specs.Judged.{Holding};
 
 // Checks a recording: its refusal.
@@ -90,7 +90,15 @@ fn decide_often(
     let mut i = 0;
     while i < rounds {
         let mut front = [0u16; 16];
-        decided = deadlock::decide(records, holding, predecessors, writers, matches, pattern, &mut front);
+        decided = deadlock::decide(
+            records,
+            holding,
+            predecessors,
+            writers,
+            matches,
+            pattern,
+            &mut front,
+        );
         i = i + 1;
     }
     decided
@@ -117,7 +125,15 @@ fn decide_with_tables(records: &[u8], pattern: &[u8], rounds: u64) -> u64
         &mut writers,
         &mut matches,
     );
-    decide_often(records, &holding, &predecessors, &writers, &matches, pattern, rounds)
+    decide_often(
+        records,
+        &holding,
+        &predecessors,
+        &writers,
+        &matches,
+        pattern,
+        rounds,
+    )
 }
 
 // Decides the lent pattern so many times, with the recording checked and its tables filled once: 0 for no pattern

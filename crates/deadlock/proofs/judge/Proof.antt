@@ -1,6 +1,6 @@
 -- `deadlock::judge` meets its contract: the tables have what is asked for. Assumes nothing.
 use borrow.Author.Needs.{needs}
-use Rattle.closure.proofs.Tabled.{tables-needed}
+use Rattle.frontier.proofs.Tabled.{tables-needed}
 use Rattle.deadlock.proofs.judge.Statement.{statement}
 use Rattle.deadlock.proofs.judge.Tie as tie
 

@@ -1,6 +1,6 @@
 -- `timed::decide_with_tables` is safe and ends: the tables have what is asked for. Assumes nothing.
 use borrow.Author.Needs.{needs}
-use Rattle.closure.proofs.Tabled.{tables-needed}
+use Rattle.frontier.proofs.Tabled.{tables-needed}
 use Rattle.timed.proofs.decide_with_tables.Statement.{statement}
 use Rattle.timed.proofs.decide_with_tables.Tie as tie
 
@@ -43,10 +43,9 @@ slice-aggregate-decide-often-4 c = search needs
 decide-often-requires : tie.Need-decide-often-requires
 decide-often-requires c κs =
     let s =
-        c .before .before .before .before .before .before .before .before .before .before .before .before
-        .before .before .before .before .before .before .before .before .before in
-    let tables = c .before .before .before .before .before .before .before .before .before .before .before .fill-tables .ensures in
-    (
+    c .before .before .before .before .before .before .before .before .before .before .before .before
+    .before .before .before .before .before .before .before .before .before in
+    let tables = c .before .before .before .before .before .before .before .before .before .before .before .fill-tables .ensures in (
       s .pre .0,
       s .pre .1,
       record { long = tables .long .held-long; at = tables .held-at },

@@ -1,0 +1,6 @@
+-- Laws of visiting an event and of turns; each function's proof is in a folder of its own.
+pub mod Visits
+pub mod Turning
+pub mod Totals
+pub mod Rounds
+pub mod Tabled
