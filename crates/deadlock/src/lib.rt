@@ -31,7 +31,8 @@ pub fn in_mask(mask: u64, l: u64) -> bool
 
 // The number e is that of an acquire.
 fn is_acquire(records: &[u8], e: usize) -> bool
-    ensures { λ r. ⌜ r ≡ (isEvent (decodeAll (now (records .entry))) e && isAcquire (decodeAll (now (records .entry))) e) ⌝ }
+    ensures { λ r. ⌜ r ≡ (isEvent (decodeAll (now (records .entry))) e && isAcquire
+        (decodeAll (now (records .entry))) e) ⌝ }
 {
     if e == 0 {
         return false;
@@ -55,7 +56,8 @@ pub fn follows(
     requires { ⌜ (1 ≤ last) × (2 * last ≤ length (now records)) × (1 ≤ e) × (2 * e ≤ length (now records))
         × (length (now records) ≤ 8190) × (checkEvents (decodeAll (now records)) .refusal ≡ 0)
         × Holding (decodeAll (now records)) (now holding) × T (isAcquire (decodeAll (now records)) last) ⌝ }
-    ensures { λ r. ⌜ r ≡ fits (signature (decodeAll (now (records .entry)))) (chainOf 0 last tasks guards) e ⌝ }
+    ensures { λ r. ⌜ r ≡ fits (signature (decodeAll (now (records .entry)))) (chainOf 0 last tasks guards)
+        e ⌝ }
 {
     if recording::operation(records, e) != 2 {
         return false;
@@ -70,13 +72,16 @@ pub fn follows(
     guards & held == 0
 }
 
-// The numbers after the first complete the chain of the acquire a: each fits the chain before it, and the last
+// The numbers after the first complete the chain of the acquire a: each fits the chain before it, and the
+// last
 // one's lock is held at the first.
 fn completes(records: &[u8], holding: &[u64], pattern: &[u8], a: usize) -> bool
     requires { ⌜ (1 ≤ a) × (2 * a ≤ length (now records)) × (length (now records) ≤ 8190)
-        × (checkEvents (decodeAll (now records)) .refusal ≡ 0) × Holding (decodeAll (now records)) (now holding)
+        × (checkEvents (decodeAll (now records)) .refusal ≡ 0) × Holding (decodeAll (now records))
+        (now holding)
         × T (isAcquire (decodeAll (now records)) a) × (2 ≤ length (now pattern)) ⌝ }
-    ensures { λ r. ⌜ r ≡ completing (decodeAll (now (records .entry))) (start (signature (decodeAll (now (records .entry)))) a)
+    ensures { λ r. ⌜ r ≡ completing (decodeAll (now (records .entry)))
+        (start (signature (decodeAll (now (records .entry)))) a)
         (drop 1 (numbers (now (pattern .entry)))) ⌝ }
 {
     let mut last = a;
@@ -140,7 +145,8 @@ fn reach(
         × Needed (decodeAll (now records)) (now predecessors) (now writers) (now matches)
         × T (all (isEvent (decodeAll (now records))) (numbers (now pattern)))
         × Before (decodeAll (now records)) [] (now front) (now latest) × (now want ≡ now front) ⌝ }
-    ensures { λ r. ⌜ Before (decodeAll (now (records .entry))) (numbers (now (pattern .entry))) (now (front .exit))
+    ensures { λ r. ⌜ Before (decodeAll (now (records .entry))) (numbers (now (pattern .entry)))
+        (now (front .exit))
         (now (latest .exit)) ⌝ }
 {
     let mut i = 0;
@@ -162,8 +168,10 @@ fn reach(
 
 // No event of the pattern is in the set of the frontier.
 fn avoids(records: &[u8], pattern: &[u8], front: &[u16]) -> bool
-    requires { ⌜ T (all (isEvent (decodeAll (now records))) (numbers (now pattern))) × (length (now front) ≡ tasks) ⌝ }
-    ensures { λ r. ⌜ r ≡ all (λ e. not (leb e (getD (now (front .entry)) (task (decodeAll (now (records .entry))) e) 0)))
+    requires { ⌜ T (all (isEvent (decodeAll (now records))) (numbers (now pattern))) ×
+        (length (now front) ≡ tasks) ⌝ }
+    ensures { λ r. ⌜ r ≡ all (λ e. not (leb e (getD (now (front .entry))
+        (task (decodeAll (now (records .entry))) e) 0)))
         (numbers (now (pattern .entry))) ⌝ }
 {
     let mut i = 0;
@@ -192,7 +200,8 @@ pub fn decide(
         × Needed (decodeAll (now records)) (now predecessors) (now writers) (now matches)
         × (now front ≡ replicate 16 0) ⌝ }
     ensures { λ r. ⌜ (r ≡ judged (decodeAll (now (records .entry))) (now (pattern .entry)))
-        × (r ≡ 2 → Reached (decodeAll (now (records .entry))) (numbers (now (pattern .entry))) (now (front .exit))) ⌝ }
+        × (r ≡ 2 → Reached (decodeAll (now (records .entry))) (numbers (now (pattern .entry)))
+        (now (front .exit))) ⌝ }
 {
     if !lends_pattern(records, holding, pattern) {
         return 0;
@@ -220,7 +229,8 @@ fn judge(records: &[u8], pattern: &[u8], front: &mut [u16]) -> u64
     requires { ⌜ (length (now records) ≤ 8190) × (checkEvents (decodeAll (now records)) .refusal ≡ 0)
         × (now front ≡ replicate 16 0) ⌝ }
     ensures { λ r. ⌜ (r ≡ judged (decodeAll (now (records .entry))) (now (pattern .entry)))
-        × (r ≡ 2 → Reached (decodeAll (now (records .entry))) (numbers (now (pattern .entry))) (now (front .exit))) ⌝ }
+        × (r ≡ 2 → Reached (decodeAll (now (records .entry))) (numbers (now (pattern .entry)))
+        (now (front .exit))) ⌝ }
 {
     let mut operations = [0u8; 4096];
     let mut tasks = [0u8; 4096];
@@ -282,7 +292,8 @@ pub fn verdict(recording: &[u8], pattern: &[u8]) -> model::Verdict
 // How many events are in the set of the frontier.
 fn count_behind(records: &[u8], front: &[u16]) -> u64
     requires { ⌜ (length (now records) ≤ 8190) × (length (now front) ≡ tasks) ⌝ }
-    ensures { λ r. ⌜ (r ≤ 4095) × (r ≡ length (behind (decodeAll (now (records .entry))) (now (front .entry)))) ⌝ }
+    ensures { λ r. ⌜ (r ≤ 4095) × (r ≡ length (behind (decodeAll (now (records .entry)))
+        (now (front .entry)))) ⌝ }
 {
     let mut count = 0;
     let mut e = 1;
@@ -299,9 +310,11 @@ fn count_behind(records: &[u8], front: &[u16]) -> u64
 fn write_one(records: &[u8], front: &[u16], out: &mut [u8], at: usize, e: usize) -> usize
     requires { ⌜ (1 ≤ e) × (2 * e ≤ length (now records)) × (e < 4096) × (length (now front) ≡ tasks)
         × (at + length (encode (behindAt (decodeAll (now records)) (now front) e)) ≤ length (now out)) ⌝ }
-    ensures { λ r. ⌜ (r ≡ at + length (encode (behindAt (decodeAll (now (records .entry))) (now (front .entry)) e)))
+    ensures { λ r. ⌜ (r ≡ at + length (encode (behindAt (decodeAll (now (records .entry)))
+        (now (front .entry)) e)))
         × (now (out .exit)
-        ≡ sets (now (out .entry)) at (encode (behindAt (decodeAll (now (records .entry))) (now (front .entry)) e))) ⌝ }
+        ≡ sets (now (out .entry)) at (encode (behindAt (decodeAll (now (records .entry)))
+        (now (front .entry)) e))) ⌝ }
 {
     if !frontier::contains(records, front, e) {
         return at;
@@ -310,12 +323,14 @@ fn write_one(records: &[u8], front: &[u16], out: &mut [u8], at: usize, e: usize)
     at + 2
 }
 
-// Writes the events in the set of the frontier at the front of the output, in recording order, two bytes each.
+// Writes the events in the set of the frontier at the front of the output, in recording order, two bytes
+// each.
 fn write_behind(records: &[u8], front: &[u16], out: &mut [u8])
     requires { ⌜ (length (now records) ≤ 8190) × (length (now front) ≡ tasks)
         × (2 * length (behind (decodeAll (now records)) (now front)) ≤ length (now out)) ⌝ }
     ensures { λ r. ⌜ now (out .exit)
-        ≡ sets (now (out .entry)) 0 (encode (behind (decodeAll (now (records .entry))) (now (front .entry)))) ⌝ }
+        ≡ sets (now (out .entry)) 0 (encode (behind (decodeAll (now (records .entry)))
+        (now (front .entry)))) ⌝ }
 {
     let mut at = 0;
     let mut e = 1;
@@ -337,11 +352,14 @@ fn unwritten(refusal: u64, event: u64) -> model::Witness
     }
 }
 
-// The schedule that witnesses a lent pattern: question 10, the verdict, and where it is deadlock question 13; then
+// The schedule that witnesses a lent pattern: question 10, the verdict, and where it is deadlock question
+// 13; then
 // the closure of the predecessors is written in recording order.
 pub fn witness(recording: &[u8], pattern: &[u8], out: &mut [u8]) -> model::Witness
-    ensures answer { λ r. ⌜ r ≡ witness (now (recording .entry)) (now (pattern .entry)) (length (now (out .entry))) ⌝ }
-    ensures output { λ r. ⌜ now (out .exit) ≡ witnessOut (now (recording .entry)) (now (pattern .entry)) (now (out .entry)) ⌝ }
+    ensures answer { λ r. ⌜ r ≡ witness (now (recording .entry)) (now (pattern .entry))
+        (length (now (out .entry))) ⌝ }
+    ensures output { λ r. ⌜ now (out .exit) ≡ witnessOut (now (recording .entry)) (now (pattern .entry))
+        (now (out .entry)) ⌝ }
 {
     let checked = recording::check(recording);
     if checked.refusal != 0 {

@@ -1,7 +1,5 @@
--- What visiting an event leaves, by its operation and the latest acquire of its lock, and how the frontier
--- goes
--- on then. Assumes nothing.
-use Prim.Native.Nat.{ℕ, _*_, _≤_, _<_}
+-- How the frontier goes on after a visit of one event. Assumes nothing.
+use Prim.Native.Nat.{ℕ, _≤_, _<_}
 use mathlib.Core.Path.{_≡_, refl, sym, _∙_}
 use mathlib.Core.Logic.{⊎-elim, _≢_}
 use mathlib.Core.Bool.{false}
@@ -9,15 +7,13 @@ use mathlib.Core.List.{List}
 use native.Mathlib.Omega.{arith}
 use lib.Dec.{T}
 use lib.ListN.{length, getD, set}
-use borrow.Author.Tests.{eq-eqb, ne-eqb, eqb-true, lt-ltb, le-ltb}
+use borrow.Author.Tests.{ne-eqb, eqb-true}
 use Rattle.model.specs.Trace.{Trace, tasks, locks, at, task, object, isRead, isAcquire}
 use Rattle.model.specs.Relations.{predecessor, writer, matching}
-use Rattle.model.specs.Recording.{decodeAll}
 use Rattle.model.specs.Closed.{Again}
-use Rattle.model.specs.Calls.Check.{checkEvents}
 use Rattle.laws.specs.Frontier.{Frontier, Behind, Visited, Advancing, Entails, raised}
 use Rattle.laws.proofs.Tests.{or-l, is-true, equal?, at-most?}
-use Rattle.laws.proofs.Trace.{sameObject-iff, decodeAll-length}
+use Rattle.laws.proofs.Trace.{sameObject-iff}
 use Rattle.laws.proofs.Relations.{writer-below, writer-read}
 use Rattle.laws.proofs.Relations.{matching-below}
 use Rattle.laws.proofs.Faults.{isRead-op, isAcquire-op}
@@ -25,93 +21,9 @@ use Rattle.laws.proofs.Frontier.{raised-grows, raised-reaches, raised-frontier}
 use Rattle.laws.proofs.WellFormed.{WellFormed, lock-lt, matching-between, matching-task}
 use Rattle.laws.proofs.Advancing.{visit-other, visit-earlier, visit-later}
 use Rattle.laws.proofs.Reached.{writer-entailed, match-entailed}
-use Rattle.laws.proofs.Questions.{events-sound}
 use Rattle.frontier.specs.Visit.{latestWith, wantedWith}
-
--- ---- by the operation
-
--- The lists that a visit leaves.
-abbrev Leaves : Trace → ℕ → List ℕ → List ℕ → List ℕ → List ℕ → Type 0
-Leaves σ f want latest want′ latest′ =
-    (want′ ≡ wantedWith σ want latest f) × (latest′ ≡ latestWith σ latest f)
-
-module _ (σ : Trace) (f op : ℕ) (is-op : op ≡ at σ f .op) (want latest : List ℕ) where
-  -- A read without a writer changes nothing.
-  pub read-unwritten : op ≡ 0 → writer σ f ≡ 0 → Leaves σ f want latest want latest
-  unfolding wantedWith latestWith
-  read-unwritten a n =
-      rw (isRead-op σ f is-op, isAcquire-op σ f is-op, a, eq-eqb (writer σ f) 0 n) (refl, refl)
-
-  -- A read wants its writer.
-  pub read-written : op ≡ 0 → (w : ℕ) → w ≡ writer σ f → w ≢ 0 → (u : ℕ) → u ≡ task σ w
-      → Leaves σ f want latest (raised want u w) latest
-  unfolding wantedWith latestWith
-  read-written a w q d u r =
-      rw (
-        r,
-        q,
-        isRead-op σ f is-op,
-        isAcquire-op σ f is-op,
-        a,
-        ne-eqb (writer σ f) 0 (λ n. d (q ∙ n)),
-      ) (refl, refl)
-
-  -- A write or a release changes nothing.
-  pub neither : op ≢ 0 → op ≢ 2 → Leaves σ f want latest want latest
-  unfolding wantedWith latestWith
-  neither a b = rw (isRead-op σ f is-op, isAcquire-op σ f is-op, ne-eqb op 0 a, ne-eqb op 2 b) (refl, refl)
-
-  module _ (a : op ≡ 2) (l : ℕ) (r : l ≡ object σ f) where
-    -- The first acquire of its lock.
-    pub acquire-first : getD latest l 0 ≡ 0 → 1 ≤ f → Leaves σ f want latest want (set latest l f)
-    unfolding wantedWith latestWith
-    acquire-first n h =
-        let z : getD latest (object σ f) 0 ≡ 0 = rw r at n in
-        rw (
-          r,
-          isRead-op σ f is-op,
-          isAcquire-op σ f is-op,
-          a,
-          z,
-          lt-ltb 0 f h,
-        ) (refl, refl)
-
-    -- A later one than the latest: that one's match is wanted.
-    pub acquire-later : (top : ℕ) → top ≡ getD latest l 0 → top ≢ 0 → top < f → (m : ℕ) → m ≡ matching σ top
-        → (u : ℕ) → u ≡ task σ top → Leaves σ f want latest (raised want u m) (set latest l f)
-    unfolding wantedWith latestWith
-    acquire-later top q d k m s u v =
-        let z : getD latest (object σ f) 0 ≡ top = rw r at (sym q) in
-        rw (
-          r,
-          s,
-          v,
-          isRead-op σ f is-op,
-          isAcquire-op σ f is-op,
-          a,
-          z,
-          ne-eqb top 0 d,
-          lt-ltb top f k,
-        ) (refl, refl)
-
-    -- An earlier one: its own match is wanted.
-    pub acquire-earlier : (top : ℕ) → top ≡ getD latest l 0 → top ≢ 0 → f ≤ top → (m : ℕ) → m ≡ matching σ f
-        → (u : ℕ) → u ≡ task σ f → Leaves σ f want latest (raised want u m) latest
-    unfolding wantedWith latestWith
-    acquire-earlier top q d k m s u v =
-        let z : getD latest (object σ f) 0 ≡ top = rw r at (sym q) in
-        rw (
-          s,
-          v,
-          isRead-op σ f is-op,
-          isAcquire-op σ f is-op,
-          a,
-          z,
-          ne-eqb top 0 d,
-          le-ltb top f k,
-        ) (refl, refl)
-
--- ---- how the frontier goes on
+use Rattle.frontier.proofs.Leaves.{Leaves, read-unwritten, read-written, neither, acquire-first}
+use Rattle.frontier.proofs.Leaves.{acquire-later, acquire-earlier}
 
 -- What is known after a visit of event f.
 pub record Visiting (σ : Trace) (front want want′ latest′ : List ℕ) (t old f : ℕ) : Type 0 where
@@ -319,21 +231,3 @@ module _ (σ : Trace) (ok : WellFormed σ) (front want latest : List ℕ) (t old
         where
           acquire : T (isAcquire σ f)
           acquire = rw (isAcquire-op σ f refl, a) tt
-
--- ---- what a visit reads
-
-module _ (b : List ℕ) (accepted : checkEvents (decodeAll b) .refusal ≡ 0) (f : ℕ)
-    (inside : (1 ≤ f) × (2 * f ≤ length b)) where
-  -- The event is one of the records.
-  pub event-in : (1 ≤ f) × (f ≤ length (decodeAll b))
-  event-in = omega (arith, inside, decodeAll-length b)
-
-  -- The lock of an acquire is one.
-  pub acquire-lock : (op : ℕ) → op ≡ at (decodeAll b) f .op → op ≡ 2 → object (decodeAll b) f < locks
-  acquire-lock op q a =
-      lock-lt (decodeAll b) (events-sound b accepted) f (event-in .0) (event-in .1)
-      (or-l (isAcquire (decodeAll b) f) _ (rw (isAcquire-op (decodeAll b) f q, a) tt))
-
-  -- A writer is an earlier event.
-  pub writer-in : (w : ℕ) → w ≡ writer (decodeAll b) f → 2 * w ≤ length b
-  writer-in w q = omega (arith, writer-below (decodeAll b) f, inside)

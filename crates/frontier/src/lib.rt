@@ -1,5 +1,6 @@
 // The sync-preserving closure of an event set. A set that has the predecessors of its events is kept as its
-// frontier, the latest event that it has of each task; each event is visited once, when the frontier passes it.
+// frontier, the latest event that it has of each task; each event is visited once, when the frontier passes
+// it.
 ghost use Prim.Native.Nat.{_+_, _*_, _/_, _<_, _≤_};
 ghost use mathlib.Core.Path.{_≡_};
 ghost use lib.ListN.{length, getD};
@@ -21,7 +22,8 @@ fn raise(want: &mut [u16], t: usize, e: u16)
     }
 }
 
-// Visits event f: wants the writer of a read, and of an acquire and the latest one of its lock that was visited
+// Visits event f: wants the writer of a read, and of an acquire and the latest one of its lock that was
+// visited
 // before, the match of the earlier one.
 fn visit(
     records: &[u8],
@@ -96,7 +98,8 @@ fn turn(
     }
 }
 
-// Advances the frontier to that of the smallest closed set with the wanted events, task by task, until none has
+// Advances the frontier to that of the smallest closed set with the wanted events, task by task, until none
+// has
 // more to reach. A closed set is extended the same way: with further events wanted.
 pub fn advance(
     records: &[u8],

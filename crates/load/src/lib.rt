@@ -10,7 +10,8 @@ ghost use Rattle.laws.specs.Walked.{Holder};
 
 // The holder of the lock after event e (its task plus 1, or 0), given that before it.
 fn holder_after(records: &[u8], e: usize, lock: u64, holder: u8) -> u8
-    requires { ⌜ (1 ≤ e) × (2 * e ≤ length (now records)) × (checkEvents (decodeAll (now records)) .refusal ≡ 0)
+    requires { ⌜ (1 ≤ e) × (2 * e ≤ length (now records)) ×
+        (checkEvents (decodeAll (now records)) .refusal ≡ 0)
         × Holder (decodeAll (now records)) e lock holder ⌝ }
     ensures { λ r. ⌜ Holder (decodeAll (now (records .entry))) (e + 1) lock r ⌝ }
 {

@@ -60,7 +60,8 @@ fn ask(records: &[u8], e: usize, holders: &mut [u8], writes: &mut [u16]) -> u64
     requires { ⌜ (1 ≤ e) × (2 * e ≤ length (now records)) × (e < 4096)
         × Asked (decodeAll (now records)) e (now holders) (now writes) ⌝ }
     ensures { λ r. ⌜ (r ≡ fault (decodeAll (now (records .entry))) e)
-        × (r ≡ 0 → Asked (decodeAll (now (records .entry))) (e + 1) (now (holders .exit)) (now (writes .exit))) ⌝ }
+        × (r ≡ 0 → Asked (decodeAll (now (records .entry))) (e + 1) (now (holders .exit))
+        (now (writes .exit))) ⌝ }
 {
     let op = operation(records, e);
     let task = task(records, e);

@@ -55,10 +55,12 @@ fn note_access(records: &[u8], e: usize, writers: &mut [u16], writes: &mut [u16]
     requires { ⌜ (1 ≤ e) × (2 * e ≤ length (now records)) × (e < 4096)
         × (length (now writers) ≡ 4096) × (length (now writes) ≡ 1024)
         × Filled (writer (decodeAll (now records))) e (now writers)
-        × LatestEvents (isWrite (decodeAll (now records))) (object (decodeAll (now records))) e (now writes) ⌝ }
+        × LatestEvents (isWrite (decodeAll (now records))) (object (decodeAll (now records))) e
+        (now writes) ⌝ }
     ensures { λ r. ⌜ (length (now (writes .exit)) ≡ 1024)
         × Filled (writer (decodeAll (now (records .entry)))) (e + 1) (now (writers .exit))
-        × LatestEvents (isWrite (decodeAll (now (records .entry)))) (object (decodeAll (now (records .entry))))
+        × LatestEvents (isWrite (decodeAll (now (records .entry))))
+        (object (decodeAll (now (records .entry))))
         (e + 1) (now (writes .exit)) ⌝ }
 {
     let op = recording::operation(records, e);
@@ -102,10 +104,12 @@ fn note_match(records: &[u8], e: usize, matches: &mut [u16], acquires: &mut [u16
         × (length (now matches) ≡ 4096) × (length (now acquires) ≡ 64)
         × (checkEvents (decodeAll (now records)) .refusal ≡ 0)
         × Matches (decodeAll (now records)) e (now matches)
-        × LatestEvents (isAcquire (decodeAll (now records))) (object (decodeAll (now records))) e (now acquires) ⌝ }
+        × LatestEvents (isAcquire (decodeAll (now records))) (object (decodeAll (now records))) e
+        (now acquires) ⌝ }
     ensures { λ r. ⌜ (length (now (acquires .exit)) ≡ 64)
         × Matches (decodeAll (now (records .entry))) (e + 1) (now (matches .exit))
-        × LatestEvents (isAcquire (decodeAll (now (records .entry)))) (object (decodeAll (now (records .entry))))
+        × LatestEvents (isAcquire (decodeAll (now (records .entry))))
+        (object (decodeAll (now (records .entry))))
         (e + 1) (now (acquires .exit)) ⌝ }
 {
     let op = recording::operation(records, e);
@@ -142,8 +146,10 @@ fn note_event(
     requires { ⌜ (1 ≤ e) × (2 * e ≤ length (now records)) × (e < 4096)
         × (checkEvents (decodeAll (now records)) .refusal ≡ 0)
         × Noted (decodeAll (now records)) e (now operations) (now tasks) (now objects) (now holding)
-        (now predecessors) (now writers) (now matches) (now latest) (now writes) (now locksets) (now acquires) ⌝ }
-    ensures { λ r. ⌜ Noted (decodeAll (now (records .entry))) (e + 1) (now (operations .exit)) (now (tasks .exit))
+        (now predecessors) (now writers) (now matches) (now latest) (now writes) (now locksets)
+        (now acquires) ⌝ }
+    ensures { λ r. ⌜ Noted (decodeAll (now (records .entry))) (e + 1) (now (operations .exit))
+        (now (tasks .exit))
         (now (objects .exit)) (now (holding .exit)) (now (predecessors .exit)) (now (writers .exit))
         (now (matches .exit)) (now (latest .exit)) (now (writes .exit)) (now (locksets .exit))
         (now (acquires .exit)) ⌝ }

@@ -224,7 +224,8 @@ fn decide(
     requires { ⌜ (length (now records) ≤ 8190) × (checkEvents (decodeAll (now records)) .refusal ≡ 0)
         × Holding (decodeAll (now records)) (now holding)
         × Checking (decodeAll (now records)) (now predecessors) (now writers) (now matches) ⌝ }
-    ensures { λ r. ⌜ r ≡ answered (decodeAll (now (records .entry))) (now (pattern .entry)) (now (schedule .entry)) ⌝ }
+    ensures { λ r. ⌜ r ≡ answered (decodeAll (now (records .entry))) (now (pattern .entry))
+        (now (schedule .entry)) ⌝ }
 {
     if !deadlock::lends_pattern(records, holding, pattern) {
         return 0;
@@ -238,7 +239,8 @@ fn decide(
 // Decides them with tables of its own.
 fn judge(records: &[u8], pattern: &[u8], schedule: &[u8]) -> u64
     requires { ⌜ (length (now records) ≤ 8190) × (checkEvents (decodeAll (now records)) .refusal ≡ 0) ⌝ }
-    ensures { λ r. ⌜ r ≡ answered (decodeAll (now (records .entry))) (now (pattern .entry)) (now (schedule .entry)) ⌝ }
+    ensures { λ r. ⌜ r ≡ answered (decodeAll (now (records .entry))) (now (pattern .entry))
+        (now (schedule .entry)) ⌝ }
 {
     let mut operations = [0u8; 4096];
     let mut tasks = [0u8; 4096];
@@ -271,7 +273,8 @@ fn judge(records: &[u8], pattern: &[u8], schedule: &[u8]) -> u64
 // Checks a proposed schedule for a lent pattern: question 10, then whether the schedule is order-keeping and
 // leaves every event of the pattern next.
 pub fn check_schedule(recording: &[u8], pattern: &[u8], schedule: &[u8]) -> model::Checked
-    ensures { λ r. ⌜ r ≡ checkSchedule (now (recording .entry)) (now (pattern .entry)) (now (schedule .entry)) ⌝ }
+    ensures { λ r. ⌜ r ≡ checkSchedule (now (recording .entry)) (now (pattern .entry))
+        (now (schedule .entry)) ⌝ }
 {
     let checked = recording::check(recording);
     if checked.refusal != 0 {

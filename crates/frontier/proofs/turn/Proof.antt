@@ -7,7 +7,13 @@ use Rattle.model.specs.Recording.{decodeAll}
 use Rattle.laws.proofs.Trace.{decodeAll-length}
 use Rattle.laws.proofs.Relations.{predecessor-below}
 use Rattle.laws.proofs.Questions.{events-sound}
-use Rattle.frontier.proofs.Turning.{Turning, turning-begin, turning-step, turning-end, turning-acquires}
+use Rattle.frontier.proofs.Turning.{
+  Turning,
+  turning-begin,
+  turning-step,
+  turning-end,
+  turning-acquires,
+}
 use Rattle.frontier.proofs.turn.Statement.{statement}
 use Rattle.frontier.proofs.turn.Tie as tie
 

@@ -7,8 +7,8 @@ use lib.ListN.{length, getD}
 use Rattle.model.specs.Trace.{object}
 use Rattle.model.specs.Recording.{decodeAll}
 use Rattle.laws.proofs.Trace.{decodeAll-length}
-use Rattle.frontier.proofs.Visits.{read-unwritten, read-written, neither, acquire-first, acquire-later}
-use Rattle.frontier.proofs.Visits.{acquire-earlier, event-in, acquire-lock, writer-in}
+use Rattle.frontier.proofs.Leaves.{read-unwritten, read-written, neither, acquire-first, acquire-later}
+use Rattle.frontier.proofs.Leaves.{acquire-earlier, event-in, acquire-lock, writer-in}
 use Rattle.frontier.proofs.visit.Statement.{statement}
 use Rattle.frontier.proofs.visit.Tie as tie
 

@@ -6,7 +6,7 @@ use borrow.Author.Needs.{needs}
 use lib.ListN.{length}
 use Rattle.model.specs.Recording.{decodeAll}
 use Rattle.relations.specs.Tables.{Noted}
-use Rattle.relations.proofs.Laws.{noted-start, noted-end}
+use Rattle.relations.proofs.Tabled.{noted-start, noted-end}
 use Rattle.relations.proofs.fill_tables.Statement.{statement}
 use Rattle.relations.proofs.fill_tables.Tie as tie
 

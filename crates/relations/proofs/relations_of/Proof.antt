@@ -6,7 +6,7 @@ use lib.ListN.{length}
 use Rattle.model.specs.Recording.{decodeAll}
 use Rattle.laws.proofs.Trace.{decodeAll-length}
 use Rattle.relations.specs.Tables.{Tables}
-use Rattle.relations.proofs.Laws.{
+use Rattle.relations.proofs.Tabled.{
   tables-answer,
   locks-fit,
   matching-fits,

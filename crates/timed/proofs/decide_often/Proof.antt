@@ -19,7 +19,8 @@ slice-aggregate-decide c = search needs
 
 decide-requires : tie.Need-decide-requires Inv-loop μ-loop
 decide-requires c κs =
-    let s = c .before .before .before .before .before .before .before .before .before in (s .pre .0, s .pre .1, s .pre .2, s .pre .3, refl)
+    let s = c .before .before .before .before .before .before .before .before .before in
+    (s .pre .0, s .pre .1, s .pre .2, s .pre .3, refl)
 
 add-i : tie.Need-add-i Inv-loop μ-loop
 add-i c = search needs

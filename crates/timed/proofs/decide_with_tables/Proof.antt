@@ -45,7 +45,8 @@ decide-often-requires c κs =
     let s =
     c .before .before .before .before .before .before .before .before .before .before .before .before
     .before .before .before .before .before .before .before .before .before in
-    let tables = c .before .before .before .before .before .before .before .before .before .before .before .fill-tables .ensures in (
+    let tables = c .before .before .before .before .before .before .before .before .before .before .before
+    .fill-tables .ensures in (
       s .pre .0,
       s .pre .1,
       record { long = tables .long .held-long; at = tables .held-at },

@@ -1,0 +1,100 @@
+-- The tables as a whole: before the first event, after the last one, and one event's relations off them.
+-- Assumes nothing.
+use Prim.Native.Nat.{ℕ, suc, _+_, _/_, _≤_, _<_}
+use mathlib.Core.Path.{_≡_, refl}
+use mathlib.Core.Bool.{true}
+use mathlib.Core.List.{List}
+use native.Mathlib.Omega.{arith}
+use lib.Count.{ones, ones-le}
+use lib.ListN.{length, getD, replicate, length-replicate}
+use Rattle.model.specs.Trace.{Trace, tasks, locks, at, task, object, isWrite, isAcquire}
+use Rattle.model.specs.Recording.{decodeAll}
+use Rattle.model.specs.Relations.{predecessor, writer, matching, held}
+use Rattle.model.specs.declared.Relations.{Relations}
+use Rattle.laws.specs.Answered.{eventRelations}
+use Rattle.laws.proofs.Trace.{decodeAll-length}
+use Rattle.laws.proofs.LatestEvents.{latest-start, filled-start}
+use Rattle.laws.proofs.Locksets.{locksets-start}
+use Rattle.laws.proofs.Relations.{predecessor-below, writer-below, matching-le, held-lt}
+use Rattle.laws.proofs.Matches.{matches-start, matches-end}
+use Rattle.relations.specs.Tables.{operation, Tables, Long, Noted}
+
+-- Before event 1 the tables are clear.
+pub noted-start : (σ : Trace) (operations tasks objects holding predecessors writers matches : List ℕ)
+    → Long operations tasks objects holding predecessors writers matches
+    → Noted σ 1 operations tasks objects holding predecessors writers matches
+    (replicate 16 0) (replicate 1024 0) (replicate 16 0) (replicate 64 0)
+noted-start σ operations tasks objects holding predecessors writers matches long = record {
+  long = long;
+  latest-long = refl;
+  write-long = length-replicate {A = ℕ} 1024 0;
+  acquire-long = refl;
+  operation-filled = filled-start (operation σ) operations;
+  task-filled = filled-start (task σ) tasks;
+  object-filled = filled-start (object σ) objects;
+  held-filled = filled-start (held σ) holding;
+  predecessor-filled = filled-start (predecessor σ) predecessors;
+  writer-filled = filled-start (writer σ) writers;
+  matching-filled = matches-start σ matches;
+  latest-event = latest-start (λ f. true) (task σ) 16;
+  latest-write = latest-start (isWrite σ) (object σ) 1024;
+  lockset = locksets-start σ;
+  latest-acquire = latest-start (isAcquire σ) (object σ) 64;
+}
+
+-- After the last event each table has its relation for every event.
+pub noted-end : (b : List ℕ) (e : ℕ)
+    {operations tasks objects holding predecessors writers matches latest writes locksets acquires : List ℕ}
+    → Noted (decodeAll b) e operations tasks objects holding predecessors writers matches latest writes
+    locksets
+    acquires
+    → e ≤ length b / 2 + 1 → length b / 2 < e
+    → Tables (decodeAll b) operations tasks objects holding predecessors writers matches
+noted-end b e {matches = matches} z h k = record {
+  long = z .long;
+  operation-at = λ f i j. z .operation-filled .at f i (omega (arith, decodeAll-length b));
+  task-at = λ f i j. z .task-filled .at f i (omega (arith, decodeAll-length b));
+  object-at = λ f i j. z .object-filled .at f i (omega (arith, decodeAll-length b));
+  held-at = λ f i j. z .held-filled .at f i (omega (arith, decodeAll-length b));
+  predecessor-at = λ f i j. z .predecessor-filled .at f i (omega (arith, decodeAll-length b));
+  writer-at = λ f i j. z .writer-filled .at f i (omega (arith, decodeAll-length b));
+  matching-at = matches-end (decodeAll b) matches (rw last at (z .matching-filled));
+}
+  where
+    last : e ≡ suc (length (decodeAll b))
+    last = omega (arith, decodeAll-length b)
+
+-- ---- one event's relations, off the tables
+
+module _ {σ : Trace} {operations tasks objects holding predecessors writers matches : List ℕ}
+    (z : Tables σ operations tasks objects holding predecessors writers matches) (e : ℕ) (h : 1 ≤ e)
+    (k : e ≤ length σ) where
+  -- The answer is what the tables have.
+  pub tables-answer : _≡_ {A = Relations}
+      (record {
+        refusal = 0;
+        event = 0;
+        held = getD holding e 0;
+        locks = ones (getD holding e 0);
+        matching = getD matches e 0;
+        writer = getD writers e 0;
+        predecessor = getD predecessors e 0;
+      })
+      (eventRelations σ e)
+  tables-answer = rw (z .held-at e h k, z .matching-at e h k, z .writer-at e h k, z .predecessor-at e h k)
+
+  -- The number of held locks fits,
+  pub locks-fit : ones (getD holding e 0) ≤ 64
+  locks-fit = rw (z .held-at e h k) (ones-le 64 (held σ e) (held-lt σ e))
+
+  -- and so does the number of each related event.
+  pub matching-fits : getD matches e 0 ≤ length σ
+  matching-fits = rw (z .matching-at e h k) (matching-le σ e k)
+
+  -- The writer's.
+  pub writer-fits : getD writers e 0 ≤ length σ
+  writer-fits = rw (z .writer-at e h k) (omega (arith, writer-below σ e))
+
+  -- The predecessor's.
+  pub predecessor-fits : getD predecessors e 0 ≤ length σ
+  predecessor-fits = rw (z .predecessor-at e h k) (omega (arith, predecessor-below σ e))
