@@ -1,5 +1,5 @@
--- The acquire of a release in a well-formed trace: the latest acquire of its lock, by whatever task. No earlier
--- event releases it, and other acquires were released before. Assumes nothing.
+-- The acquire of a release in a well-formed trace: the latest acquire of its lock, by whatever task. No
+-- earlier event releases it, and other acquires were released before. Assumes nothing.
 use Prim.Native.Nat.{ℕ, suc, _-_, _≤_, _<_}
 use mathlib.Core.Path.{_≡_, sym, ap, _∙_}
 use mathlib.Core.Logic.{⊎-elim, _≢_}
