@@ -3,3 +3,4 @@ pub mod Chains
 pub mod Verdicts
 pub mod Answers
 pub mod Written
+pub mod Tabled

@@ -10,20 +10,11 @@ use lib.ListN.{length, getD}
 use Rattle.model.specs.Lists.{member}
 use Rattle.model.specs.Bytes.{numbers, isWhole}
 use Rattle.model.specs.Trace.{Trace, tasks, locks, task, object, isAcquire}
-use Rattle.model.specs.Relations.{predecessor, writer, matching}
+use Rattle.model.specs.Relations.{matching}
 use Rattle.model.specs.Pattern.{isPattern}
 use Rattle.model.specs.Schedule.{latestWrite, witnesses}
 use Rattle.laws.specs.Frontier.{Frontier}
 use Rattle.recording.specs.Asked.{variables}
-
--- The relations that a check needs, with an entry for each event of the longest recording.
-pub record Checking (σ : Trace) (predecessors writers matches : List ℕ) : Type 0 where
-  pub predecessor-long : length predecessors ≡ 4096
-  pub writer-long : length writers ≡ 4096
-  pub matching-long : length matches ≡ 4096
-  pub predecessor-at : (e : ℕ) → 1 ≤ e → e ≤ length σ → getD predecessors e 0 ≡ predecessor σ e
-  pub writer-at : (e : ℕ) → 1 ≤ e → e ≤ length σ → getD writers e 0 ≡ writer σ e
-  pub matching-at : (e : ℕ) → 1 ≤ e → e ≤ length σ → getD matches e 0 ≡ matching σ e
 
 -- For each task the latest listed event, or 0: its listed events are those up to there.
 pub record UpTo (σ : Trace) (ρ last : List ℕ) : Type 0 where

@@ -14,8 +14,9 @@ ghost use Rattle.model.specs.Bytes.{numbers, isWhole};
 ghost use Rattle.model.specs.Schedule.{mayFollow, syncPreserving, witnesses};
 ghost use Rattle.model.specs.Calls.Check.{checkEvents};
 ghost use Rattle.model.specs.Calls.CheckSchedule.{checkSchedule};
+ghost use Rattle.frontier.specs.Visit.{Needed};
 ghost use Rattle.deadlock.specs.Judged.{Holding};
-ghost use Rattle.schedule.specs.Listed.{Checking, UpTo, Listed, Ready, answered};
+ghost use Rattle.schedule.specs.Listed.{UpTo, Listed, Ready, answered};
 ghost use Rattle.schedule.specs.Next.{isListed, isNext, isUnlocked};
 
 // Whether event e is listed: not 0, and no later than the latest listed event of its task.
@@ -75,7 +76,7 @@ fn follows(
     e: u16,
 ) -> bool
     requires { ⌜ (length (now records) ≤ 8190) × (checkEvents (decodeAll (now records)) .refusal ≡ 0)
-        × Checking (decodeAll (now records)) (now predecessors) (now writers) (now matches)
+        × Needed (decodeAll (now records)) (now predecessors) (now writers) (now matches)
         × Ready (decodeAll (now records)) (now last) (now acquires) (now writes) ⌝ }
     ensures { λ r. ⌜ ((before : List ℕ)
         → Listed (decodeAll (now (records .entry))) before (now (last .entry)) (now (acquires .entry))
@@ -137,7 +138,7 @@ fn keeps_order(
     last: &mut [u16],
 ) -> bool
     requires { ⌜ (length (now records) ≤ 8190) × (checkEvents (decodeAll (now records)) .refusal ≡ 0)
-        × Checking (decodeAll (now records)) (now predecessors) (now writers) (now matches)
+        × Needed (decodeAll (now records)) (now predecessors) (now writers) (now matches)
         × (now last ≡ replicate tasks 0) ⌝ }
     ensures { λ r. ⌜ (r ≡ syncPreserving (decodeAll (now (records .entry))) (numbers (now (schedule .entry))))
         × (r ≡ true → UpTo (decodeAll (now (records .entry))) (numbers (now (schedule .entry)))
@@ -196,7 +197,7 @@ pub fn witnessed(
     schedule: &[u8],
 ) -> bool
     requires { ⌜ (length (now records) ≤ 8190) × (checkEvents (decodeAll (now records)) .refusal ≡ 0)
-        × Checking (decodeAll (now records)) (now predecessors) (now writers) (now matches)
+        × Needed (decodeAll (now records)) (now predecessors) (now writers) (now matches)
         × T (all (isEvent (decodeAll (now records))) (numbers (now pattern))) ⌝ }
     ensures { λ r. ⌜ r ≡ (isWhole (now (schedule .entry)) && witnesses (decodeAll (now (records .entry)))
         (numbers (now (schedule .entry))) (numbers (now (pattern .entry)))) ⌝ }
@@ -223,7 +224,7 @@ fn decide(
 ) -> u64
     requires { ⌜ (length (now records) ≤ 8190) × (checkEvents (decodeAll (now records)) .refusal ≡ 0)
         × Holding (decodeAll (now records)) (now holding)
-        × Checking (decodeAll (now records)) (now predecessors) (now writers) (now matches) ⌝ }
+        × Needed (decodeAll (now records)) (now predecessors) (now writers) (now matches) ⌝ }
     ensures { λ r. ⌜ r ≡ answered (decodeAll (now (records .entry))) (now (pattern .entry))
         (now (schedule .entry)) ⌝ }
 {

@@ -1,6 +1,7 @@
 -- `deadlock::judge` meets its contract: the tables have what is asked for. Assumes nothing.
 use borrow.Author.Needs.{needs}
 use Rattle.frontier.proofs.Tabled.{tables-needed}
+use Rattle.deadlock.proofs.Tabled.{tables-holding}
 use Rattle.deadlock.proofs.judge.Statement.{statement}
 use Rattle.deadlock.proofs.judge.Tie as tie
 
@@ -49,7 +50,7 @@ decide-requires c κs =
     .before .fill-tables .ensures in (
       s .pre .0,
       s .pre .1,
-      record { long = tables .long .held-long; at = tables .held-at },
+      tables-holding tables,
       tables-needed tables,
       s .pre .2,
     )

@@ -86,7 +86,7 @@ returns-4 c =
     (next (c .before .before .before .before .before)) _
     (c .before .before .before .before .operation .ensures .1) (c .before .before .before .if4 .taken) _ _
     (c .before .before .object .ensures)
-    (s .pre .2 .writer-at (s .args .e) h k)
+    (s .pre .2 .reading .writer-at (s .args .e) h k)
 
 returns-5 : tie.Need-returns-5
 returns-5 c =
@@ -106,12 +106,12 @@ is-unlocked-requires c κs =
       inside (c .before .before .before .before .before) .0,
       omega (arith, inside (c .before .before .before .before .before)),
       s .pre .0,
-      s .pre .2 .matching-long,
+      s .pre .2 .reading .matching-long,
       s .pre .3 .last-long,
       s .pre .3 .acquire-long,
       lock,
       s .pre .3 .acquire-small _ lock,
-      s .pre .2 .matching-at,
+      s .pre .2 .reading .matching-at,
     )
 
 returns-6 : tie.Need-returns-6

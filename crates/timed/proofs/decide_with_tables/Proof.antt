@@ -1,6 +1,7 @@
 -- `timed::decide_with_tables` is safe and ends: the tables have what is asked for. Assumes nothing.
 use borrow.Author.Needs.{needs}
 use Rattle.frontier.proofs.Tabled.{tables-needed}
+use Rattle.deadlock.proofs.Tabled.{tables-holding}
 use Rattle.timed.proofs.decide_with_tables.Statement.{statement}
 use Rattle.timed.proofs.decide_with_tables.Tie as tie
 
@@ -49,7 +50,7 @@ decide-often-requires c κs =
     .fill-tables .ensures in (
       s .pre .0,
       s .pre .1,
-      record { long = tables .long .held-long; at = tables .held-at },
+      tables-holding tables,
       tables-needed tables,
     )
 
