@@ -1,0 +1,146 @@
+-- The events of a path, and what an attempt at one event more decides. Assumes nothing.
+use Prim.Native.Nat.{ℕ, suc, _+_, _*_, _≤_, _<_}
+use mathlib.Core.Path.{_≡_, refl, sym, ap, subst, _∙_}
+use mathlib.Core.Bool.{Bool, true, false, not, _&&_, and-true}
+use mathlib.Core.List.{List, [], _∷_, _++_, List·Memᴰ, List·Memᴰ·head, List·Memᴰ·tail}
+use native.Mathlib.Omega.{arith}
+use lib.Dec.{T, T-not, not-T, leb}
+use lib.ListN.{length, getD, take, drop, length-take, drop-of-length-le}
+use lib.Seq.{getD-take}
+use Rattle.model.specs.Lists.{all, hasBit}
+use Rattle.model.specs.Trace.{Trace, task, object, isEvent}
+use Rattle.model.specs.Relations.{held}
+use Rattle.model.specs.Recording.{decodeAll}
+use Rattle.model.specs.Pattern.{isDeadlock}
+use Rattle.laws.specs.Chain.{Chain, signature, add}
+use Rattle.laws.specs.Frontier.{Before}
+use Rattle.laws.specs.Walk.{Returning}
+use Rattle.laws.proofs.Tests.{is-false, and-i, not-false, decided}
+use Rattle.laws.proofs.Lists.{all-at, all-iff}
+use Rattle.laws.proofs.Extensions.{branch-not, branch-nowhere}
+use Rattle.laws.proofs.Returning.{add-rooted, not-deadlock-later}
+use Rattle.laws.proofs.Trace.{isEvent-iff, decodeAll-length}
+use Rattle.laws.proofs.Pattern.{events-inside}
+use Rattle.laws.proofs.Before.{before-deadlock}
+use Rattle.deadlock.proofs.Verdicts.{all-next}
+use Rattle.chain.specs.Attempted.{Along, Attempted}
+
+-- ---- tests of lists
+
+-- A test of joined lists.
+pub all-append : (f : ℕ → Bool) (xs ys : List ℕ) → all f (xs ++ ys) ≡ (all f xs && all f ys)
+all-append f [] ys = refl
+all-append f (x ∷ xs) ys = decided (f x) (λ e. rw (e, all-append f xs ys)) (λ e. rw e)
+
+-- A test that does not pass for all fails for one.
+pub all-fails : (f : ℕ → Bool) (xs : List ℕ) → all f xs ≡ false → (x : ℕ) × List·Memᴰ x xs × (f x ≡ false)
+all-fails f [] h = absurd (subst T h tt)
+all-fails f (x ∷ xs) h =
+    decided (f x)
+    (λ e. let (y, m, n) = all-fails f xs (rw e at h) in (y, List·Memᴰ·tail m, n))
+    (λ e. (x, List·Memᴰ·head refl, e))
+
+-- ---- the events of a path
+
+-- An event of a path is one, and its record is there.
+pub path-event : (b path : List ℕ) (len i e : ℕ) → T (all (isEvent (decodeAll b)) (take len path))
+    → len ≤ length path → i < len → e ≡ getD path i 0 → (1 ≤ e) × (2 * e ≤ length b)
+path-event b path len i e t l h q =
+    let long = length-take len path in
+    let event = isEvent-iff (decodeAll b) (getD path i 0) .0
+    (rw (getD-take len path i 0 h) at (all-at 0 (isEvent (decodeAll b)) (take len path) i t (omega arith))) in
+    let size = decodeAll-length b in
+    omega arith
+
+-- ---- the events of a path that are still to be asked
+
+module _ (f : ℕ → Bool) (path : List ℕ) (len i : ℕ) where
+  -- One event of the path is asked.
+  pub path-next : len ≤ length path → i < len → all f (drop i (take len path))
+      ≡ (f (getD path i 0) && all f (drop (i + 1) (take len path)))
+  path-next l h =
+      let long = length-take len path in
+      rw (all-next (decodeAll []) (take len path) i (omega arith) f, getD-take len path i 0 h)
+
+  -- All are asked.
+  pub path-end : len ≤ i → all f (drop i (take len path)) ≡ true
+  path-end h =
+      let long = length-take len path in
+      let done : length (take len path) ≤ i = omega arith in
+      rw (drop-of-length-le (take len path) done)
+
+-- ---- what is decided of one event more
+
+-- A path of events, and one event more.
+pub path-more : (σ : Trace) (p : List ℕ) (e : ℕ) → T (all (isEvent σ) p) → 1 ≤ e → e ≤ length σ
+    → T (all (isEvent σ) (p ++ e ∷ []))
+path-more σ p e t h k =
+    let event : T (isEvent σ e) = isEvent-iff σ e .1 (h, k) in
+    rw (all-append (isEvent σ) p (e ∷ []), and-true) (and-i (all (isEvent σ) p) _ t event)
+
+module _ (σ : Trace) (k : ℕ) (p : List ℕ) (first e : ℕ) where
+  -- A lock that does not lead back.
+  pub attempted-nowhere : (back grown newest : List ℕ) → Returning σ first (suc k) back
+      → hasBit (getD back k 0) (object σ e) ≡ false → Attempted σ k p first e 1 grown newest
+  attempted-nowhere back grown newest z h = record {
+    deadlock = λ q. absurd (omega arith);
+    grows = λ q. absurd (omega arith);
+    dropped = λ d c a.
+        branch-nowhere σ k c e (rw (a .begins) (unclosed c a)) (z .nowhere k (omega arith)
+        (add (signature σ) c e) (a .begins) (add-rooted σ c e (a .rooted)) h);
+    later = λ q. absurd (omega arith);
+  }
+    where
+      unclosed : (c : Chain) → Along σ p first c → hasBit (held σ first) (object σ e) ≡ false
+      unclosed c a =
+          is-false (hasBit (held σ first) (object σ e)) (not-T (hasBit (held σ first) (object σ e)) (λ t.
+          T-not (hasBit (getD back k 0) (object σ e)) (rw h tt) (z .covers k (omega arith) (object σ e) t)))
+
+  module _ (grown newest : List ℕ) (inside : T (all (isEvent σ) p)) (here : (1 ≤ e) × (e ≤ length σ))
+      (z : Before σ (p ++ e ∷ []) grown newest) where
+    -- What the frontier has decides.
+    verdict : isDeadlock σ (p ++ e ∷ [])
+        ≡ (all (λ f. not (leb f (getD grown (task σ f) 0))) p && not (leb e (getD grown (task σ e) 0)))
+    verdict =
+        before-deadlock σ (p ++ e ∷ []) grown newest z (path-more σ p e inside (here .0) (here .1))
+        ∙ all-append test p (e ∷ []) ∙ ap (λ (b : Bool). all test p && b) (and-true (test e))
+      where
+        test : ℕ → Bool
+        test f = not (leb f (getD grown (task σ f) 0))
+
+    -- The closure has an event of the path.
+    pub attempted-met : all (λ f. not (leb f (getD grown (task σ f) 0))) p ≡ false
+        → Attempted σ k p first e 2 grown newest
+    attempted-met h = record {
+      deadlock = λ q. absurd (omega arith);
+      grows = λ q. absurd (omega arith);
+      dropped = λ d c a. branch-not σ k c e (rw (a .events, verdict, h));
+      later = λ q c a f l m s. branch-not σ k c f (rw (a .events) (after f l m s));
+    }
+      where
+        after : (f : ℕ) → e < f → f ≤ length σ → task σ f ≡ task σ e → isDeadlock σ (p ++ f ∷ []) ≡ false
+        after f l m s =
+            let (x, i, n) = all-fails (λ g. not (leb g (getD grown (task σ g) 0))) p h in
+            let event = isEvent-iff σ x .0 (all-iff (isEvent σ) p .0 inside x i) in
+            not-deadlock-later σ p e f x
+            (events-inside σ (p ++ f ∷ []) (path-more σ p f inside (omega arith) m)) (here .0) l (sym s) i
+            (rw (z .members x (event .0) (event .1), not-false (leb x (getD grown (task σ x) 0)) n) tt)
+
+    module _ (h : all (λ f. not (leb f (getD grown (task σ f) 0))) p ≡ true) where
+      -- It has the event itself.
+      pub attempted-itself : leb e (getD grown (task σ e) 0) ≡ true → Attempted σ k p first e 1 grown newest
+      attempted-itself y = record {
+        deadlock = λ q. absurd (omega arith);
+        grows = λ q. absurd (omega arith);
+        dropped = λ d c a. branch-not σ k c e (rw (a .events, verdict, h, y));
+        later = λ q. absurd (omega arith);
+      }
+
+      -- It has none of the events.
+      pub attempted-deadlock : leb e (getD grown (task σ e) 0) ≡ false → Attempted σ k p first e 0 grown newest
+      attempted-deadlock n = record {
+        deadlock = λ q. rw (verdict, h, n);
+        grows = λ q. z;
+        dropped = λ d. absurd (d refl);
+        later = λ q. absurd (omega arith);
+      }

@@ -1,0 +1,110 @@
+-- `chain::attempt` meets its contract: the laws say so of each outcome. Assumes nothing.
+use Prim.Native.Nat.{_≤_}
+use mathlib.Core.Path.{sym, ap, _∙_}
+use mathlib.Core.List.{[], _∷_, _++_}
+use native.Mathlib.Omega.{arith}
+use borrow.Author.Needs.{needs}
+use lib.ListN.{length, getD, take}
+use Rattle.model.specs.Lists.{hasBit}
+use Rattle.model.specs.Trace.{isAcquire}
+use Rattle.model.specs.Recording.{decodeAll}
+use Rattle.laws.specs.Frontier.{Before}
+use Rattle.laws.proofs.Tests.{or-l, not-true, not-false}
+use Rattle.laws.proofs.Trace.{decodeAll-length}
+use Rattle.laws.proofs.Questions.{events-sound}
+use Rattle.laws.proofs.WellFormed.{lock-lt}
+use Rattle.laws.proofs.Before.{before-extend}
+use Rattle.chain.proofs.Laws.{attempted-nowhere, attempted-met, attempted-itself, attempted-deadlock}
+use Rattle.chain.proofs.attempt.Statement.{statement}
+use Rattle.chain.proofs.attempt.Tie as tie
+
+-- Event e is in the trace.
+here : (c : tie.Start) → (1 ≤ c .args .e) × (c .args .e ≤ length (decodeAll (c .args .records .now)))
+here c = let size = decodeAll-length (c .args .records .now) in (c .pre .8, omega (arith, c .pre .9))
+
+-- The frontier that has grown is that of the longer path.
+grown : (c : tie.After-grow)
+    → Before (decodeAll (c .before .before .before .before .before .before .before .before .before .before .before .before .before .args .records .now))
+    (take (c .before .before .before .before .before .before .before .before .before .before .before .before .before .args .len) (c .before .before .before .before .before .before .before .before .before .before .before .before .before .args .path .now) ++ c .before .before .before .before .before .before .before .before .before .before .before .before .before .args .e ∷ [])
+    (c .grow .last .1 .1 .1 .1 .1 .1 .0) (c .grow .last .1 .1 .1 .1 .1 .1 .1 .0)
+grown c =
+    let s = c .before .before .before .before .before .before .before .before .before .before .before .before .before in
+    before-extend (decodeAll (s .args .records .now)) (events-sound (s .args .records .now) (s .pre .1))
+    (take (s .args .len) (s .args .path .now)) (s .args .front .now) (s .args .latest .now) (s .args .e)
+    _ _ (s .pre .7) (here s .0) (here s .1) (c .grow .ensures)
+
+mul-in-mask : tie.Need-mul-in-mask
+mul-in-mask c = search needs
+
+shared-slice-read-in-mask : tie.Need-shared-slice-read-in-mask
+shared-slice-read-in-mask c = search needs
+
+object-requires : tie.Need-object-requires
+object-requires c κs = search needs
+
+cast-in-mask : tie.Need-cast-in-mask
+cast-in-mask c = search needs
+
+in-mask-requires : tie.Need-in-mask-requires
+in-mask-requires c κs =
+    let s = c .before .before .before .before .before .before .before .before in
+    rw (c .object .ensures .1) (lock-lt (decodeAll (s .args .records .now)) (events-sound
+    (s .args .records .now) (s .pre .1)) (s .args .e) (here s .0) (here s .1)
+    (or-l (isAcquire (decodeAll (s .args .records .now)) (s .args .e)) _ (s .pre .10)))
+
+returns : tie.Need-returns
+returns c =
+    let s = c .before .before .before .before .before .before .before .before .before .before in
+    attempted-nowhere (decodeAll (s .args .records .now)) (s .args .k) (take (s .args .len) (s .args .path .now))
+    (getD (s .args .path .now) 0 0) (s .args .e) (s .args .back .now) _ _ (s .pre .3)
+    (ap (hasBit (getD (s .args .back .now) (s .args .k) 0)) (sym (c .before .before .object .ensures .1))
+    ∙ sym (c .before .in-mask .ensures) ∙ not-true _ (c .if1 .taken))
+
+grow-requires : tie.Need-grow-requires
+grow-requires c κs = search needs
+
+avoids-path-requires : tie.Need-avoids-path-requires
+avoids-path-requires c κs = search needs
+
+returns-2 : tie.Need-returns-2
+returns-2 c =
+    let s = c .before .before .before .before .before .before .before .before .before .before .before .before .before .before .before .before .before in
+    attempted-met (decodeAll (s .args .records .now)) (s .args .k) (take (s .args .len) (s .args .path .now))
+    (getD (s .args .path .now) 0 0) (s .args .e) _ _ (s .pre .5) (here s) (grown (c .before .before .before .before))
+    (sym (c .before .avoids-path .ensures) ∙ not-true _ (c .if2 .taken))
+
+contains-requires : tie.Need-contains-requires
+contains-requires c κs = search needs
+
+returns-3 : tie.Need-returns-3
+returns-3 c =
+    let s = c .before .before .before .before .before .before .before .before .before .before .before .before .before .before .before .before .before .before .before .before .before in
+    attempted-itself (decodeAll (s .args .records .now)) (s .args .k) (take (s .args .len) (s .args .path .now))
+    (getD (s .args .path .now) 0 0) (s .args .e) _ _ (s .pre .5) (here s) (grown (c .before .before .before .before .before .before .before .before))
+    (sym (c .before .before .before .before .before .avoids-path .ensures) ∙ not-false _ (c .before .before .before .before .if2 .left))
+    (sym (c .before .contains .ensures) ∙ c .if3 .taken)
+
+returns-4 : tie.Need-returns-4
+returns-4 c =
+    let s = c .before .before .before .before .before .before .before .before .before .before .before .before .before .before .before .before .before .before .before .before .before in
+    attempted-deadlock (decodeAll (s .args .records .now)) (s .args .k) (take (s .args .len) (s .args .path .now))
+    (getD (s .args .path .now) 0 0) (s .args .e) _ _ (s .pre .5) (here s) (grown (c .before .before .before .before .before .before .before .before))
+    (sym (c .before .before .before .before .before .avoids-path .ensures) ∙ not-false _ (c .before .before .before .before .if2 .left))
+    (sym (c .before .contains .ensures) ∙ c .if3 .left)
+
+pub attempt-spec : {M : Type 1} → statement M
+attempt-spec =
+    tie.close
+    (tie.spec
+    mul-in-mask
+    shared-slice-read-in-mask
+    object-requires
+    cast-in-mask
+    in-mask-requires
+    returns
+    grow-requires
+    avoids-path-requires
+    returns-2
+    contains-requires
+    returns-3
+    returns-4)

@@ -1,0 +1,27 @@
+-- One event more on a chain: what is decided of it.
+use Prim.Native.Nat.{ℕ, _≤_, _<_}
+use mathlib.Core.Path.{_≡_}
+use mathlib.Core.Logic.{_≢_}
+use mathlib.Core.Bool.{true}
+use mathlib.Core.List.{List, [], _∷_, _++_}
+use lib.ListN.{length}
+use Rattle.model.specs.Trace.{Trace, task}
+use Rattle.model.specs.Pattern.{isDeadlock}
+use Rattle.laws.specs.Chain.{Chain}
+use Rattle.laws.specs.Walk.{branch, Rooted}
+use Rattle.laws.specs.Frontier.{Before}
+
+-- The chain has these events, and its first one's task and held locks in its masks.
+pub record Along (σ : Trace) (p : List ℕ) (first : ℕ) (c : Chain) : Type 0 where
+  pub events : c .events ≡ p
+  pub begins : c .first ≡ first
+  pub rooted : Rooted σ c
+
+-- Event e after the events p: 0 where they make a deadlock so far, with the frontier of the closure; otherwise
+-- e adds nothing, and where it is 2 no later event of its task does.
+pub record Attempted (σ : Trace) (k : ℕ) (p : List ℕ) (first e r : ℕ) (grown newest : List ℕ) : Type 0 where
+  pub deadlock : r ≡ 0 → isDeadlock σ (p ++ e ∷ []) ≡ true
+  pub grows : r ≡ 0 → Before σ (p ++ e ∷ []) grown newest
+  pub dropped : r ≢ 0 → (c : Chain) → Along σ p first c → branch σ k c e ≡ []
+  pub later : r ≡ 2 → (c : Chain) → Along σ p first c → (f : ℕ) → e < f → f ≤ length σ
+      → task σ f ≡ task σ e → branch σ k c f ≡ []

@@ -1,0 +1,133 @@
+// One event more on a chain of acquires that may become a pattern: whether it may lead back to the first
+// event, and the closure of the predecessors with it.
+ghost use Prim.Native.Nat.{suc, _*_, _^_, _<_, _≤_};
+ghost use mathlib.Core.Path.{_≡_};
+ghost use mathlib.Core.Bool.{cond, not};
+ghost use lib.Dec.{T, eqb, leb};
+ghost use lib.Bits.{bitOr};
+ghost use lib.ListN.{length, getD, take};
+ghost use Rattle.model.specs.Lists.{all};
+ghost use Rattle.model.specs.Trace.{tasks, task, isEvent, isAcquire};
+ghost use Rattle.model.specs.Relations.{predecessor};
+ghost use Rattle.model.specs.Recording.{decodeAll};
+ghost use Rattle.model.specs.Calls.Check.{checkEvents};
+ghost use Rattle.laws.specs.Frontier.{Settled, raised, Advanced, Before};
+ghost use Rattle.laws.specs.Walk.{Returning};
+ghost use Rattle.frontier.specs.Visit.{Needed};
+ghost use Rattle.chain.specs.Attempted.{Attempted};
+
+// Copies a frontier, and extends the copy by the predecessor of event e.
+fn grow(
+    records: &[u8],
+    predecessors: &[u16],
+    writers: &[u16],
+    matches: &[u16],
+    front: &[u16; 16],
+    latest: &[u16; 64],
+    grown: &mut [u16; 16],
+    newest: &mut [u16; 64],
+    e: usize,
+)
+    requires { ⌜ (length (now records) ≤ 8190) × (checkEvents (decodeAll (now records)) .refusal ≡ 0)
+        × Needed (decodeAll (now records)) (now predecessors) (now writers) (now matches)
+        × Settled (decodeAll (now records)) (now front) (now front) (now latest)
+        × (1 ≤ e) × (2 * e ≤ length (now records)) ⌝ }
+    ensures { λ r. ⌜ Advanced (decodeAll (now (records .entry)))
+        (raised (now (front .entry)) (task (decodeAll (now (records .entry))) e)
+        (predecessor (decodeAll (now (records .entry))) e))
+        (now (grown .exit)) (now (newest .exit)) ⌝ }
+{
+    *grown = *front;
+    *newest = *latest;
+    let mut want = *front;
+    frontier::extend(
+        records,
+        predecessors,
+        writers,
+        matches,
+        grown,
+        &mut want,
+        newest,
+        e,
+    );
+}
+
+// No event of the path is in the set of the frontier.
+fn avoids_path(records: &[u8], path: &[u16], len: usize, front: &[u16]) -> bool
+    requires { ⌜ (len ≤ length (now path)) × T (all (isEvent (decodeAll (now records))) (take len (now path)))
+        × (length (now front) ≡ tasks) ⌝ }
+    ensures { λ r. ⌜ r ≡ all (λ f. not (leb f (getD (now (front .entry))
+        (task (decodeAll (now (records .entry))) f) 0)))
+        (take len (now (path .entry))) ⌝ }
+{
+    let mut i = 0;
+    while i < len {
+        if frontier::contains(records, front, path[i] as usize) {
+            return false;
+        }
+        i = i + 1;
+    }
+    true
+}
+
+// Attempts the acquire e after the events of the path, with at most k more after it: 0 where they are a
+// deadlock so far, and then with the frontier of the closure of their predecessors; 1 where e leads nowhere,
+// and 2 where the later events of its task do not either.
+pub fn attempt(
+    records: &[u8],
+    predecessors: &[u16],
+    writers: &[u16],
+    matches: &[u16],
+    back: &[u64],
+    path: &[u16],
+    len: usize,
+    k: usize,
+    front: &[u16; 16],
+    latest: &[u16; 64],
+    grown: &mut [u16; 16],
+    newest: &mut [u16; 64],
+    e: usize,
+) -> u64
+    requires { ⌜ (length (now records) ≤ 8190) × (checkEvents (decodeAll (now records)) .refusal ≡ 0)
+        × Needed (decodeAll (now records)) (now predecessors) (now writers) (now matches)
+        × Returning (decodeAll (now records)) (getD (now path) 0 0) (suc k) (now back)
+        × (len ≤ length (now path)) × T (all (isEvent (decodeAll (now records))) (take len (now path)))
+        × (k < 16) × Before (decodeAll (now records)) (take len (now path)) (now front) (now latest)
+        × (1 ≤ e) × (2 * e ≤ length (now records)) × T (isAcquire (decodeAll (now records)) e) ⌝ }
+    ensures { λ r. ⌜ Attempted (decodeAll (now (records .entry))) k (take len (now (path .entry)))
+        (getD (now (path .entry)) 0 0) e r (now (grown .exit)) (now (newest .exit)) ⌝ }
+{
+    if !deadlock::in_mask(back[k], recording::object(records, e) as u64) {
+        return 1;
+    }
+    grow(
+        records,
+        predecessors,
+        writers,
+        matches,
+        front,
+        latest,
+        grown,
+        newest,
+        e,
+    );
+    if !avoids_path(records, path, len, grown) {
+        return 2;
+    }
+    if frontier::contains(records, grown, e) {
+        return 1;
+    }
+    0
+}
+
+// The tasks whose later events are passed over, after event e was attempted.
+pub fn exclude(records: &[u8], excluded: u64, met: u64, e: usize) -> u64
+    requires { ⌜ (1 ≤ e) × (2 * e ≤ length (now records)) ⌝ }
+    ensures { λ r. ⌜ r ≡ cond (eqb met 2) (bitOr excluded (2 ^ (task (decodeAll (now (records .entry))) e)))
+        excluded ⌝ }
+{
+    if met != 2 {
+        return excluded;
+    }
+    excluded | (1 << (recording::task(records, e) as u64))
+}

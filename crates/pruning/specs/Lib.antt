@@ -1,0 +1,2 @@
+-- Definitions for the contracts of inner functions. No public contract names one.
+pub mod Linked

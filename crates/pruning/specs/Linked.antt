@@ -1,0 +1,34 @@
+-- The acquires that can stand in a pattern, as links from each event to the next of them, and the table of
+-- locks that lead to each other on the way to being filled.
+use Prim.Native.Nat.{ℕ, _≤_, _<_}
+use mathlib.Core.Path.{_≡_}
+use mathlib.Core.Logic.{_≢_}
+use mathlib.Core.Bool.{Bool, false, not, _&&_}
+use mathlib.Core.List.{List}
+use lib.Dec.{T, eqb}
+use lib.Bits.{bitAnd}
+use lib.ListN.{length, getD}
+use Rattle.model.specs.Trace.{Trace, locks, task, object, isAcquire}
+use Rattle.model.specs.Relations.{held}
+use Rattle.laws.specs.Walk.{Covers}
+
+-- An acquire at which its task holds a lock.
+abbrev pub isNested : Trace → ℕ → Bool
+isNested σ e = isAcquire σ e && not (eqb (held σ e) 0)
+
+-- The number x is that of the first nested acquire after event e, or 0.
+pub record Link (σ : Trace) (e x : ℕ) : Type 0 where
+  pub ends : x ≡ 0 → (f : ℕ) → e < f → f ≤ length σ → isNested σ f ≡ false
+  pub nested : x ≢ 0 → (e < x) × (x ≤ length σ) × T (isNested σ x)
+  pub between : (f : ℕ) → e < f → f < x → isNested σ f ≡ false
+
+-- The table has the link of each event, and of number 0.
+pub record Linked (σ : Trace) (next : List ℕ) : Type 0 where
+  pub long : length next ≡ 4096
+  pub link : (e : ℕ) → e ≤ length σ → Link σ e (getD next e 0)
+
+-- As `Leading` of laws, for the acquires before event `stop`.
+pub record Led (σ : Trace) (a stop t guards : ℕ) (lead : List ℕ) : Type 0 where
+  pub long : length lead ≡ locks
+  pub leads : (e : ℕ) → a < e → e < stop → T (isAcquire σ e) → task σ e ≢ t
+      → T (eqb (bitAnd guards (held σ e)) 0) → Covers (held σ e) (getD lead (object σ e) 0)

@@ -1,0 +1,139 @@
+// What the search for deadlocks passes over: events that hold no lock, by links to the next one that does, and
+// chains whose last lock cannot lead back to the first event.
+ghost use Prim.Native.Nat.{ℕ, _+_, _*_, _<_, _≤_};
+ghost use mathlib.Core.Path.{_≡_};
+ghost use mathlib.Core.Bool.{cond};
+ghost use lib.Dec.{T};
+ghost use lib.ListN.{length, getD};
+ghost use Rattle.model.specs.Lists.{hasBit};
+ghost use Rattle.model.specs.Trace.{locks, isAcquire};
+ghost use Rattle.model.specs.Recording.{decodeAll};
+ghost use Rattle.model.specs.Pattern.{largestPattern};
+ghost use Rattle.model.specs.Calls.Check.{checkEvents};
+ghost use Rattle.laws.specs.Walk.{Covers, Leading, Spread};
+ghost use Rattle.deadlock.specs.Judged.{Holding};
+ghost use Rattle.pruning.specs.Linked.{isNested, Link, Linked, Led};
+
+// Event e where it is a nested acquire, and otherwise `later`.
+fn nested_or(records: &[u8], holding: &[u64], e: usize, later: u16) -> u16
+    requires { ⌜ (1 ≤ e) × (2 * e ≤ length (now records)) × (length (now records) ≤ 8190)
+        × Holding (decodeAll (now records)) (now holding) ⌝ }
+    ensures { λ r. ⌜ r ≡ cond (isNested (decodeAll (now (records .entry))) e) e later ⌝ }
+{
+    if recording::operation(records, e) != 2 {
+        return later;
+    }
+    if holding[e] == 0 {
+        return later;
+    }
+    e as u16
+}
+
+// Links each event, and number 0, to the first nested acquire after it, from the last event down.
+pub fn link_nested(records: &[u8], holding: &[u64], next: &mut [u16])
+    requires { ⌜ (length (now records) ≤ 8190) × Holding (decodeAll (now records)) (now holding)
+        × (length (now next) ≡ 4096) ⌝ }
+    ensures { λ r. ⌜ Linked (decodeAll (now (records .entry))) (now (next .exit)) ⌝ }
+{
+    let mut top = 0;
+    let mut e = records.len() / 2;
+    while 0 < e {
+        next[e] = top;
+        top = nested_or(records, holding, e, top);
+        e = e - 1;
+    }
+    next[0] = top;
+}
+
+// Notes the held locks of the acquire e with its lock, unless its task is t or it holds a guard.
+fn note_lead(
+    records: &[u8],
+    holding: &[u64],
+    a: usize,
+    t: u8,
+    guards: u64,
+    lead: &mut [u64],
+    e: usize,
+)
+    requires { ⌜ (1 ≤ e) × (2 * e ≤ length (now records)) × (length (now records) ≤ 8190)
+        × (checkEvents (decodeAll (now records)) .refusal ≡ 0)
+        × Holding (decodeAll (now records)) (now holding) × T (isAcquire (decodeAll (now records)) e)
+        × Led (decodeAll (now records)) a e t guards (now lead) ⌝ }
+    ensures { λ r. ⌜ Led (decodeAll (now (records .entry))) a (e + 1) t guards (now (lead .exit)) ⌝ }
+{
+    if recording::task(records, e) == t {
+        return;
+    }
+    let held = holding[e];
+    if guards & held != 0 {
+        return;
+    }
+    let l = recording::object(records, e) as usize;
+    lead[l] = lead[l] | held;
+}
+
+// For each lock, the locks that are held at its acquires after event a, by other tasks than t and with none of
+// the guards.
+pub fn note_leads(
+    records: &[u8],
+    holding: &[u64],
+    next: &[u16],
+    a: usize,
+    t: u8,
+    guards: u64,
+    lead: &mut [u64],
+)
+    requires { ⌜ (2 * a ≤ length (now records)) × (length (now records) ≤ 8190)
+        × (checkEvents (decodeAll (now records)) .refusal ≡ 0)
+        × Holding (decodeAll (now records)) (now holding) × Linked (decodeAll (now records)) (now next)
+        × (length (now lead) ≡ locks) ⌝ }
+    ensures { λ r. ⌜ Leading (decodeAll (now (records .entry))) a t guards (now (lead .exit)) ⌝ }
+{
+    let mut e = next[a] as usize;
+    while e != 0 {
+        note_lead(records, holding, a, t, guards, lead, e);
+        e = next[e] as usize;
+    }
+}
+
+// The mask, and where it has lock m also the locks that lead there.
+fn widen_by(lead: &[u64], mask: u64, m: usize, wide: u64) -> u64
+    requires { ⌜ (m < locks) × (length (now lead) ≡ locks) ⌝ }
+    ensures { λ r. ⌜ Covers wide r × (T (hasBit mask m) → Covers (getD (now (lead .entry)) m 0) r) ⌝ }
+{
+    if deadlock::in_mask(mask, m as u64) {
+        return wide | lead[m];
+    }
+    wide
+}
+
+// The mask with the locks that lead to its own.
+fn widen(lead: &[u64], mask: u64) -> u64
+    requires { ⌜ length (now lead) ≡ locks ⌝ }
+    ensures { λ r. ⌜ Covers mask r × ((m : ℕ) → m < locks → T (hasBit mask m)
+        → Covers (getD (now (lead .entry)) m 0) r) ⌝ }
+{
+    let mut wide = mask;
+    let mut m = 0;
+    while m < 64 {
+        wide = widen_by(lead, mask, m, wide);
+        m = m + 1;
+    }
+    wide
+}
+
+// The locks from which a chain may return to the held locks of its first event by at most 0, 1 and so on to
+// count - 1 more events.
+pub fn fill_back(lead: &[u64], held: u64, back: &mut [u64], count: usize)
+    requires { ⌜ (length (now lead) ≡ locks) × (length (now back) ≡ largestPattern) × (1 ≤ count)
+        × (count ≤ largestPattern) ⌝ }
+    ensures { λ r. ⌜ Spread (now (lead .entry)) count (now (back .exit))
+        × (getD (now (back .exit)) 0 0 ≡ held) ⌝ }
+{
+    back[0] = held;
+    let mut i = 1;
+    while i < count {
+        back[i] = widen(lead, back[i - 1]);
+        i = i + 1;
+    }
+}
