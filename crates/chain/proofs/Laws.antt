@@ -1,8 +1,8 @@
 -- The events of a path, and what an attempt at one event more decides. Assumes nothing.
 use Prim.Native.Nat.{ℕ, suc, _+_, _*_, _≤_, _<_}
-use mathlib.Core.Path.{_≡_, refl, sym, ap, subst, _∙_}
+use mathlib.Core.Path.{_≡_, refl, sym, ap, _∙_}
 use mathlib.Core.Bool.{Bool, true, false, not, _&&_, and-true}
-use mathlib.Core.List.{List, [], _∷_, _++_, List·Memᴰ, List·Memᴰ·head, List·Memᴰ·tail}
+use mathlib.Core.List.{List, [], _∷_, _++_}
 use native.Mathlib.Omega.{arith}
 use lib.Dec.{T, T-not, not-T, leb}
 use lib.ListN.{length, getD, take, drop, length-take, drop-of-length-le}
@@ -15,8 +15,8 @@ use Rattle.model.specs.Pattern.{isDeadlock}
 use Rattle.laws.specs.Chain.{Chain, signature, add}
 use Rattle.laws.specs.Frontier.{Before}
 use Rattle.laws.specs.Walk.{Returning}
-use Rattle.laws.proofs.Tests.{is-false, and-i, not-false, decided}
-use Rattle.laws.proofs.Lists.{all-at, all-iff}
+use Rattle.laws.proofs.Tests.{is-false, and-i, not-false}
+use Rattle.laws.proofs.Lists.{all-at, all-iff, all-append, all-fails}
 use Rattle.laws.proofs.Extensions.{branch-not, branch-nowhere}
 use Rattle.laws.proofs.Returning.{add-rooted, not-deadlock-later}
 use Rattle.laws.proofs.Trace.{isEvent-iff, decodeAll-length}
@@ -24,21 +24,6 @@ use Rattle.laws.proofs.Pattern.{events-inside}
 use Rattle.laws.proofs.Before.{before-deadlock}
 use Rattle.deadlock.proofs.Verdicts.{all-next}
 use Rattle.chain.specs.Attempted.{Along, Attempted}
-
--- ---- tests of lists
-
--- A test of joined lists.
-pub all-append : (f : ℕ → Bool) (xs ys : List ℕ) → all f (xs ++ ys) ≡ (all f xs && all f ys)
-all-append f [] ys = refl
-all-append f (x ∷ xs) ys = decided (f x) (λ e. rw (e, all-append f xs ys)) (λ e. rw e)
-
--- A test that does not pass for all fails for one.
-pub all-fails : (f : ℕ → Bool) (xs : List ℕ) → all f xs ≡ false → (x : ℕ) × List·Memᴰ x xs × (f x ≡ false)
-all-fails f [] h = absurd (subst T h tt)
-all-fails f (x ∷ xs) h =
-    decided (f x)
-    (λ e. let (y, m, n) = all-fails f xs (rw e at h) in (y, List·Memᴰ·tail m, n))
-    (λ e. (x, List·Memᴰ·head refl, e))
 
 -- ---- the events of a path
 

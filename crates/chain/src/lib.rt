@@ -6,10 +6,11 @@ ghost use mathlib.Core.Bool.{cond, not};
 ghost use lib.Dec.{T, eqb, leb};
 ghost use lib.Bits.{bitOr};
 ghost use lib.ListN.{length, getD, take};
-ghost use Rattle.model.specs.Lists.{all};
-ghost use Rattle.model.specs.Trace.{tasks, task, isEvent, isAcquire};
+ghost use Rattle.model.specs.Lists.{all, hasBit};
+ghost use Rattle.model.specs.Trace.{tasks, task, object, isEvent, isAcquire};
 ghost use Rattle.model.specs.Relations.{predecessor};
 ghost use Rattle.model.specs.Recording.{decodeAll};
+ghost use Rattle.model.specs.Pattern.{largestPattern};
 ghost use Rattle.model.specs.Calls.Check.{checkEvents};
 ghost use Rattle.laws.specs.Frontier.{Settled, raised, Advanced, Before};
 ghost use Rattle.laws.specs.Walk.{Returning};
@@ -129,5 +130,23 @@ pub fn exclude(records: &[u8], excluded: u64, met: u64, e: usize) -> u64
     if met != 2 {
         return excluded;
     }
-    excluded | (1 << (recording::task(records, e) as u64))
+    with_task(records, excluded, e)
+}
+
+// The lock of the acquire e is held at the chain's first event.
+pub fn completes(records: &[u8], back: &[u64], e: usize) -> bool
+    requires { ⌜ (1 ≤ e) × (2 * e ≤ length (now records))
+        × (checkEvents (decodeAll (now records)) .refusal ≡ 0) × (length (now back) ≡ largestPattern)
+        × T (isAcquire (decodeAll (now records)) e) ⌝ }
+    ensures { λ r. ⌜ r ≡ hasBit (getD (now (back .entry)) 0 0) (object (decodeAll (now (records .entry))) e) ⌝ }
+{
+    deadlock::in_mask(back[0], recording::object(records, e) as u64)
+}
+
+// The mask of tasks with that of event e.
+pub fn with_task(records: &[u8], tasks: u64, e: usize) -> u64
+    requires { ⌜ (1 ≤ e) × (2 * e ≤ length (now records)) ⌝ }
+    ensures { λ r. ⌜ r ≡ bitOr tasks (2 ^ (task (decodeAll (now (records .entry))) e)) ⌝ }
+{
+    tasks | (1 << (recording::task(records, e) as u64))
 }

@@ -13,7 +13,7 @@ use Rattle.model.specs.Bytes.{encode, written}
 use Rattle.model.specs.Calls.Witness.{leastSchedule}
 use Rattle.model.specs.Trace.{Trace, task}
 use Rattle.laws.proofs.Lists.{from-iff, from-split, from-length}
-use Rattle.laws.proofs.Filters.{filter-append, filter-ext, filter-length}
+use Rattle.laws.proofs.Filters.{filter-append, filter-next, filter-ext, filter-length}
 use Rattle.laws.proofs.Bytes.{encode-append}
 use Rattle.laws.proofs.Parts.{sets-append}
 use Rattle.deadlock.specs.Judged.{Reached, behindAt, behindBelow, behind}
@@ -23,9 +23,7 @@ module _ (σ : Trace) (front : List ℕ) (e : ℕ) (h : 1 ≤ e) where
   pub behind-step : behindBelow σ front (e + 1) ≡ behindBelow σ front e ++ behindAt σ front e
   behind-step =
       let q : e + 1 - 1 ≡ e = omega arith in
-      let last : e - (e - 1) ≡ 1 = omega arith in
-      rw (q, from-split 1 (e - 1) e e (omega arith) (omega arith), last)
-      (filter-append (λ f. leb f (getD front (task σ f) 0)) (from 1 (e - 1)) (e ∷ []))
+      rw q (filter-next (λ f. leb f (getD front (task σ f) 0)) e h)
 
   -- An event of the set comes last,
   pub behind-more : leb e (getD front (task σ e) 0) ≡ true

@@ -7,17 +7,12 @@ use mathlib.Core.List.{List}
 use native.Mathlib.Omega.{arith}
 use lib.ListN.{length, getD, set}
 use borrow.Author.Tests.{eq-eqb, ne-eqb, lt-ltb, le-ltb}
-use Rattle.model.specs.Trace.{Trace, locks, at, task, object, isAcquire}
+use Rattle.model.specs.Trace.{Trace, at, task, object}
 use Rattle.model.specs.Relations.{writer, matching}
 use Rattle.model.specs.Recording.{decodeAll}
-use Rattle.model.specs.Calls.Check.{checkEvents}
 use Rattle.laws.specs.Frontier.{raised}
-use Rattle.laws.proofs.Tests.{or-l}
-use Rattle.laws.proofs.Trace.{decodeAll-length}
 use Rattle.laws.proofs.Relations.{writer-below}
 use Rattle.laws.proofs.Faults.{isRead-op, isAcquire-op}
-use Rattle.laws.proofs.WellFormed.{lock-lt}
-use Rattle.laws.proofs.Questions.{events-sound}
 use Rattle.frontier.specs.Visit.{latestWith, wantedWith}
 
 -- ---- by the operation
@@ -105,18 +100,7 @@ module _ (σ : Trace) (f op : ℕ) (is-op : op ≡ at σ f .op) (want latest : L
 
 -- ---- what a visit reads
 
-module _ (b : List ℕ) (accepted : checkEvents (decodeAll b) .refusal ≡ 0) (f : ℕ)
-    (inside : (1 ≤ f) × (2 * f ≤ length b)) where
-  -- The event is one of the records.
-  pub event-in : (1 ≤ f) × (f ≤ length (decodeAll b))
-  event-in = omega (arith, inside, decodeAll-length b)
-
-  -- The lock of an acquire is one.
-  pub acquire-lock : (op : ℕ) → op ≡ at (decodeAll b) f .op → op ≡ 2 → object (decodeAll b) f < locks
-  acquire-lock op q a =
-      lock-lt (decodeAll b) (events-sound b accepted) f (event-in .0) (event-in .1)
-      (or-l (isAcquire (decodeAll b) f) _ (rw (isAcquire-op (decodeAll b) f q, a) tt))
-
-  -- A writer is an earlier event.
-  pub writer-in : (w : ℕ) → w ≡ writer (decodeAll b) f → 2 * w ≤ length b
-  writer-in w q = omega (arith, writer-below (decodeAll b) f, inside)
+-- A writer is an earlier event.
+pub writer-in : (b : List ℕ) (f : ℕ) → (1 ≤ f) × (2 * f ≤ length b) → (w : ℕ) → w ≡ writer (decodeAll b) f
+    → 2 * w ≤ length b
+writer-in b f inside w q = omega (arith, writer-below (decodeAll b) f, inside)

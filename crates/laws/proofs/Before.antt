@@ -1,7 +1,7 @@
 -- The frontier of the closure of some events' predecessors: of none, of one event more, and the verdict that
 -- it
 -- gives. Assumes nothing.
-use Prim.Native.Nat.{ℕ, zero, suc, _≤_, _<_}
+use Prim.Native.Nat.{ℕ, _≤_, _<_}
 use mathlib.Core.Path.{_≡_, refl, sym, ap, _∙_}
 use mathlib.Core.Logic.{_⊎_, ⊎-elim, _≢_}
 use mathlib.Core.Bool.{false, not}
@@ -20,7 +20,7 @@ use Rattle.model.specs.Closure.{closure}
 use Rattle.model.specs.Pattern.{predecessors, closureBefore, isDeadlock}
 use Rattle.laws.specs.Frontier.{Frontier, Settled, raised, Advanced, Before}
 use Rattle.laws.proofs.Tests.{is-false, equal?}
-use Rattle.laws.proofs.Lists.{all-ext, all-iff}
+use Rattle.laws.proofs.Lists.{all-ext, all-iff, zeros}
 use Rattle.laws.proofs.Trace.{isEvent-iff}
 use Rattle.laws.proofs.Relations.{predecessor-below, predecessor-own}
 use Rattle.laws.proofs.Frontier.{raised-grows, raised-reaches, raised-cases, raised-frontier}
@@ -69,11 +69,6 @@ module _ (σ : Trace) where
         (none e h);
   }
     where
-      zeros : (n t : ℕ) → _≡_ {A = ℕ} (getD (replicate n 0) t 0) 0
-      zeros zero t = refl
-      zeros (suc n) zero = refl
-      zeros (suc n) (suc t) = zeros n t
-
       clear : Frontier σ front
       clear = record { long = rw p refl; own = λ t l d. absurd (d (rw p (zeros tasks t))) }
 

@@ -1,14 +1,15 @@
 -- A task's turn in advancing a frontier: how it begins and ends, and the frontier before any. Assumes
 -- nothing.
-use Prim.Native.Nat.{ℕ, zero, suc, _≤_, _<_}
+use Prim.Native.Nat.{ℕ, _≤_, _<_}
 use mathlib.Core.Path.{_≡_, refl, _∙_}
 use mathlib.Core.Logic.{⊎-elim, _≢_}
 use mathlib.Core.List.{List}
 use native.Mathlib.Omega.{arith}
-use lib.ListN.{length, getD, set, replicate, length-set, getD-replicate}
+use lib.ListN.{length, getD, set, replicate, length-set}
 use lib.Seq.{getD-set-same, getD-set-other}
 use Rattle.model.specs.Trace.{Trace, tasks, locks, task}
 use Rattle.laws.specs.Frontier.{Frontier, Behind, Visited, Advancing, Settled}
+use Rattle.laws.proofs.Lists.{zeros}
 use Rattle.laws.proofs.Tests.{equal?}
 
 module _ (σ : Trace) (front want latest : List ℕ) where
@@ -92,25 +93,20 @@ module _ (σ : Trace) (front want latest : List ℕ) where
   pub settled-start : Frontier σ want → front ≡ replicate tasks 0 → latest ≡ replicate locks 0
       → Settled σ front want latest
   settled-start w p q = record {
-    front-ok = record { long = rw p refl; own = λ t l d. absurd (d (zero-at t l)) };
+    front-ok = record { long = rw p refl; own = λ t l d. absurd (d (zero-at t)) };
     want-ok = w;
-    ahead = λ u l. rw (zero-at u l) (omega arith);
+    ahead = λ u l. rw (zero-at u) (omega arith);
     latest-long = rw q refl;
     writer-wanted = λ e v d. absurd (nothing e v);
-    latest-visited = λ l b d. absurd (d (rw q (getD-replicate {A = ℕ} locks l 0 0 b)));
+    latest-visited = λ l b d. absurd (d (rw q (zeros locks l)));
     latest-most = λ e v a. absurd (nothing e v);
     match-wanted = λ e v a k. absurd (nothing e v);
   }
     where
-      zero-at : (t : ℕ) → t < tasks → getD front t 0 ≡ 0
-      zero-at t l = rw p (getD-replicate {A = ℕ} tasks t 0 0 l)
-
-      none : (n t : ℕ) → _≡_ {A = ℕ} (getD (replicate n 0) t 0) 0
-      none zero t = refl
-      none (suc n) zero = refl
-      none (suc n) (suc t) = none n t
+      zero-at : (t : ℕ) → getD front t 0 ≡ 0
+      zero-at t = rw p (zeros tasks t)
 
       nothing : (e : ℕ) → Visited σ front 0 0 0 e → ⊥
       nothing e v =
           let h : e ≤ getD (replicate tasks 0) (task σ e) 0 = rw p at (v .behind .within) in
-          omega (arith, none tasks (task σ e), v .behind .event)
+          omega (arith, zeros tasks (task σ e), v .behind .event)

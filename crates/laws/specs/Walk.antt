@@ -20,6 +20,16 @@ module _ {ℓ κ} {A : Type ℓ} {B : Type κ} where
   each g [] = []
   each g (x ∷ l) = g x ++ each g l
 
+-- The number x is the first after e, and at most n, that passes the test, or 0.
+pub record First (p : ℕ → Bool) (n e x : ℕ) : Type 0 where
+  pub ends : x ≡ 0 → (f : ℕ) → e < f → f ≤ n → p f ≡ false
+  pub passes : x ≢ 0 → (e < x) × (x ≤ n) × T (p x)
+  pub between : (f : ℕ) → e < f → f < x → p f ≡ false
+
+-- The numbers to n that come before x, where 0 stands for the end.
+abbrev pub upTo : ℕ → ℕ → ℕ
+upTo n x = cond (eqb x 0) (suc n) x
+
 -- ---- any test of beginnings
 
 module _ (sig : ℕ → Signature) (n : ℕ) (bad : List ℕ → Bool) where

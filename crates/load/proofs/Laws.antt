@@ -19,9 +19,8 @@ use Rattle.model.specs.Calls.Check.{checkEvents}
 use Rattle.model.specs.Calls.Load.{isHeldAfter}
 use Rattle.laws.specs.Walked.{Holder}
 use Rattle.laws.proofs.Tests.{decided}
-use Rattle.laws.proofs.Lists.{from-split}
-use Rattle.laws.proofs.Filters.{filter-append}
-use Rattle.laws.proofs.Trace.{decodeAll-length}
+use Rattle.laws.proofs.Filters.{filter-next}
+use Rattle.laws.proofs.Trace.{record-event}
 use Rattle.laws.proofs.Holders.{holds-apart, holds-access, holder-keep, holder-acquire}
 use Rattle.laws.proofs.Holders.{holder-release, holder-any}
 use Rattle.laws.proofs.Faults.{isAcquire-op, isRelease-op}
@@ -59,7 +58,7 @@ module _ (b : List ℕ) (accepted : checkEvents (decodeAll b) .refusal ≡ 0) (e
   sound = events-sound b accepted
 
   event : (1 ≤ e) × (e ≤ length (decodeAll b))
-  event = omega (arith, decodeAll-length b, inside)
+  event = record-event b e inside
 
   -- An acquire of the lock makes its task the holder.
   pub acquire-holder : op ≡ 2 → (o : ℕ) → o ≡ object (decodeAll b) e → o ≡ l
@@ -102,13 +101,7 @@ module _ (b : List ℕ) (accepted : checkEvents (decodeAll b) .refusal ≡ 0) (e
 pub count-more : (p : ℕ → Bool) (e : ℕ) → 1 ≤ e
     → length (filter p (from 1 e)) ≡ length (filter p (from 1 (e - 1))) + cond (p e) 1 0
 count-more p e h =
-    let last : e - (e - 1) ≡ 1 = omega arith in
-    rw (
-      from-split 1 (e - 1) e e (omega arith) (omega arith),
-      last,
-      filter-append p (from 1 (e - 1)) (e ∷ []),
-      length-append (filter p (from 1 (e - 1))) (filter p (e ∷ [])),
-    )
+    rw (filter-next p e h, length-append (filter p (from 1 (e - 1))) (filter p (e ∷ [])))
     (decided (p e) (λ y. rw y) (λ y. rw y))
 
 -- Some task holds the lock after event e where there is a holder then.

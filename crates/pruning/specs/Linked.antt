@@ -10,17 +10,15 @@ use lib.Bits.{bitAnd}
 use lib.ListN.{length, getD}
 use Rattle.model.specs.Trace.{Trace, locks, task, object, isAcquire}
 use Rattle.model.specs.Relations.{held}
-use Rattle.laws.specs.Walk.{Covers}
+use Rattle.laws.specs.Walk.{First, Covers}
 
 -- An acquire at which its task holds a lock.
 abbrev pub isNested : Trace → ℕ → Bool
 isNested σ e = isAcquire σ e && not (eqb (held σ e) 0)
 
 -- The number x is that of the first nested acquire after event e, or 0.
-pub record Link (σ : Trace) (e x : ℕ) : Type 0 where
-  pub ends : x ≡ 0 → (f : ℕ) → e < f → f ≤ length σ → isNested σ f ≡ false
-  pub nested : x ≢ 0 → (e < x) × (x ≤ length σ) × T (isNested σ x)
-  pub between : (f : ℕ) → e < f → f < x → isNested σ f ≡ false
+abbrev pub Link : Trace → ℕ → ℕ → Type 0
+Link σ e x = First (isNested σ) (length σ) e x
 
 -- The table has the link of each event, and of number 0.
 pub record Linked (σ : Trace) (next : List ℕ) : Type 0 where

@@ -1,5 +1,5 @@
-// What the search for deadlocks passes over: events that hold no lock, by links to the next one that does, and
-// chains whose last lock cannot lead back to the first event.
+// What the search for deadlocks passes over: events that hold no lock, by links to the next one that does,
+// and chains whose last lock cannot lead back to the first event.
 ghost use Prim.Native.Nat.{ℕ, _+_, _*_, _<_, _≤_};
 ghost use mathlib.Core.Path.{_≡_};
 ghost use mathlib.Core.Bool.{cond};
@@ -10,9 +10,10 @@ ghost use Rattle.model.specs.Trace.{locks, isAcquire};
 ghost use Rattle.model.specs.Recording.{decodeAll};
 ghost use Rattle.model.specs.Pattern.{largestPattern};
 ghost use Rattle.model.specs.Calls.Check.{checkEvents};
-ghost use Rattle.laws.specs.Walk.{Covers, Leading, Spread};
+ghost use Rattle.laws.specs.Chain.{signature, fits, chainOf};
+ghost use Rattle.laws.specs.Walk.{First, Covers, Leading, Spread};
 ghost use Rattle.deadlock.specs.Judged.{Holding};
-ghost use Rattle.pruning.specs.Linked.{isNested, Link, Linked, Led};
+ghost use Rattle.pruning.specs.Linked.{isNested, Linked, Led};
 
 // Event e where it is a nested acquire, and otherwise `later`.
 fn nested_or(records: &[u8], holding: &[u64], e: usize, later: u16) -> u16
@@ -45,6 +46,34 @@ pub fn link_nested(records: &[u8], holding: &[u64], next: &mut [u16])
     next[0] = top;
 }
 
+// The first event after e that may follow a chain that ends with the acquire `last`, of these tasks and with
+// these held locks, or 0.
+pub fn following(
+    records: &[u8],
+    holding: &[u64],
+    next: &[u16],
+    last: usize,
+    tasks: u64,
+    guards: u64,
+    e: usize,
+) -> usize
+    requires { ⌜ (1 ≤ last) × (2 * last ≤ length (now records)) × (2 * e ≤ length (now records))
+        × (length (now records) ≤ 8190) × (checkEvents (decodeAll (now records)) .refusal ≡ 0)
+        × Holding (decodeAll (now records)) (now holding) × Linked (decodeAll (now records)) (now next)
+        × T (isAcquire (decodeAll (now records)) last) ⌝ }
+    ensures { λ r. ⌜ First (fits (signature (decodeAll (now (records .entry)))) (chainOf 0 last tasks guards))
+        (length (decodeAll (now (records .entry)))) e r ⌝ }
+{
+    let mut x = next[e] as usize;
+    while x != 0 {
+        if deadlock::follows(records, holding, last, tasks, guards, x) {
+            return x;
+        }
+        x = next[x] as usize;
+    }
+    0
+}
+
 // Notes the held locks of the acquire e with its lock, unless its task is t or it holds a guard.
 fn note_lead(
     records: &[u8],
@@ -72,8 +101,8 @@ fn note_lead(
     lead[l] = lead[l] | held;
 }
 
-// For each lock, the locks that are held at its acquires after event a, by other tasks than t and with none of
-// the guards.
+// For each lock, the locks that are held at its acquires after event a, by other tasks than t and with none
+// of the guards.
 pub fn note_leads(
     records: &[u8],
     holding: &[u64],

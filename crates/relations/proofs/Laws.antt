@@ -17,7 +17,7 @@ use Rattle.model.specs.Relations.{predecessor, writer, held}
 use Rattle.model.specs.Calls.Check.{checkEvents}
 use Rattle.laws.specs.Walked.{Filled, LatestEvents, Locksets, Matches}
 use Rattle.laws.proofs.Tests.{or-l, or-r, is-true, equal?}
-use Rattle.laws.proofs.Trace.{decodeAll-length}
+use Rattle.laws.proofs.Trace.{record-event}
 use Rattle.laws.proofs.LatestEvents.{latest-set, latest-keep, latest-writer, latest-predecessor, filled-set}
 use Rattle.laws.proofs.Locksets.{locksets-held, locksets-acquire, locksets-release, locksets-access}
 use Rattle.laws.proofs.Faults.{isRead-op, isWrite-op, isAcquire-op, isRelease-op}
@@ -85,7 +85,7 @@ module _ (b : List ℕ) (accepted : checkEvents (decodeAll b) .refusal ≡ 0) (e
 
   -- The event is one of it.
   event : (1 ≤ e) × (e ≤ length (decodeAll b))
-  event = omega (arith, decodeAll-length b, inside)
+  event = record-event b e inside
 
   acquire : op ≡ 2 → isAcquire (decodeAll b) e ≡ true
   acquire a = isAcquire-op (decodeAll b) e (is-op .1) ∙ eq-eqb op 2 a

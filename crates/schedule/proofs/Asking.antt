@@ -20,7 +20,8 @@ use Rattle.laws.proofs.Questions.{events-sound}
 use Rattle.recording.specs.Asked.{variables}
 use Rattle.schedule.specs.Listed.{Listed}
 use Rattle.schedule.specs.Next.{isListed, isNext, isUnlocked}
-use Rattle.schedule.proofs.Laws.{acquire-lock, no-event, not-next, read-follows, acquire-follows}
+use Rattle.laws.proofs.WellFormed.{acquire-lock}
+use Rattle.schedule.proofs.Laws.{no-event, not-next, read-follows, acquire-follows}
 use Rattle.schedule.proofs.Laws.{other-follows}
 
 -- ---- one table

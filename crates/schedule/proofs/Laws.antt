@@ -12,12 +12,10 @@ use borrow.Author.Tests.{eq-eqb, ne-eqb, le-leb, lt-leb}
 use Rattle.model.specs.Trace.{Trace, tasks, locks, at, task, object, isRead, isAcquire, sameObject}
 use Rattle.model.specs.Relations.{predecessor, writer, matching}
 use Rattle.model.specs.Schedule.{latestWrite, mayFollow, enabled}
-use Rattle.laws.proofs.Tests.{parts, and-i, or-l, T-ext, is-true, is-false, eq→eqb, equal?, at-most?}
+use Rattle.laws.proofs.Tests.{parts, and-i, T-ext, is-true, is-false, eq→eqb, equal?, at-most?}
 use Rattle.laws.proofs.Lists.{member-iff}
-use Rattle.laws.proofs.Trace.{isEvent-iff, sameTask-iff, sameObject-iff, acquire-event}
+use Rattle.laws.proofs.Trace.{isEvent-iff, sameTask-iff, sameObject-iff}
 use Rattle.laws.proofs.Relations.{predecessor-latest, predecessor-below, matching-below}
-use Rattle.laws.proofs.WellFormed.{WellFormed, lock-lt}
-use Rattle.laws.proofs.Faults.{isAcquire-op}
 use Rattle.laws.proofs.Schedule.{Prior, mayFollow-iff, enabled-iff}
 use Rattle.recording.specs.Asked.{variables}
 use Rattle.schedule.specs.Listed.{UpTo, Acquired, Listed}
@@ -100,12 +98,6 @@ module _ (σ : Trace) (ρ last : List ℕ) (u : UpTo σ ρ last) where
         (λ t. rule .1 (enabled-iff σ ρ e .0 t))
 
 -- ---- one lock
-
--- An acquire's object is a lock.
-pub acquire-lock : (σ : Trace) → WellFormed σ → (e op : ℕ) → op ≡ at σ e .op → op ≡ 2 → object σ e < locks
-acquire-lock σ ok e op q a =
-    let t : T (isAcquire σ e) = rw (isAcquire-op σ e q, a) tt in
-    let (h, k) = acquire-event σ e t in lock-lt σ ok e h k (or-l (isAcquire σ e) _ t)
 
 -- Each listed acquire of the lock of e is earlier, and has its match listed.
 abbrev pub Clear : Trace → List ℕ → ℕ → Type 0

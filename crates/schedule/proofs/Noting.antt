@@ -18,12 +18,12 @@ use Rattle.laws.specs.Frontier.{Frontier}
 use Rattle.laws.proofs.Tests.{and-i, or-l, or-r, or-elim, T-ext, eq→eqb, equal?, at-most?}
 use Rattle.laws.proofs.Lists.{member-iff}
 use Rattle.laws.proofs.Trace.{isEvent-iff, sameTask-iff, sameObject-iff}
-use Rattle.laws.proofs.WellFormed.{WellFormed}
+use Rattle.laws.proofs.WellFormed.{WellFormed, acquire-lock}
 use Rattle.laws.proofs.Faults.{isWrite-op, isAcquire-op}
 use Rattle.laws.proofs.Schedule.{MayFollow, mayFollow-iff}
 use Rattle.recording.specs.Asked.{variables}
 use Rattle.schedule.specs.Listed.{UpTo, Acquired, Written, Listed}
-use Rattle.schedule.proofs.Laws.{listed-iff, Clear, acquire-lock}
+use Rattle.schedule.proofs.Laws.{listed-iff, Clear}
 
 -- ---- the start
 

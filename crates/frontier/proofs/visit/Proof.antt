@@ -6,9 +6,11 @@ use borrow.Author.Needs.{needs}
 use lib.ListN.{length, getD}
 use Rattle.model.specs.Trace.{object}
 use Rattle.model.specs.Recording.{decodeAll}
-use Rattle.laws.proofs.Trace.{decodeAll-length}
+use Rattle.laws.proofs.Trace.{decodeAll-length, record-event}
+use Rattle.laws.proofs.WellFormed.{acquire-lock}
+use Rattle.laws.proofs.Questions.{events-sound}
 use Rattle.frontier.proofs.Leaves.{read-unwritten, read-written, neither, acquire-first, acquire-later}
-use Rattle.frontier.proofs.Leaves.{acquire-earlier, event-in, acquire-lock, writer-in}
+use Rattle.frontier.proofs.Leaves.{acquire-earlier, writer-in}
 use Rattle.frontier.proofs.visit.Statement.{statement}
 use Rattle.frontier.proofs.visit.Tie as tie
 
@@ -24,7 +26,8 @@ top-in c =
     .before in
     s .pre .6 .small _ (omega (
       arith,
-      acquire-lock (s .args .records .now) (s .pre .3) (s .args .f) (s .pre .0, s .pre .1) _
+      acquire-lock (decodeAll (s .args .records .now)) (events-sound (s .args .records .now) (s .pre .3))
+          (s .args .f) _
           (c .before .before .before .before .before .before .operation .ensures .1)
           (c .before .before .before .before .if3 .left),
       c .before .before .before .object .ensures .1,
@@ -45,8 +48,8 @@ returns c =
     read-unwritten (decodeAll (s .args .records .now)) (s .args .f) _
     (c .before .before .before .operation .ensures .1) (s .args .want .now) (s .args .latest .now)
     (c .before .before .if1 .taken)
-    (sym (s .pre .5 .writer-at (s .args .f) (event-in (s .args .records .now) (s .pre .3) (s .args .f)
-    (s .pre .0, s .pre .1) .0) (event-in (s .args .records .now) (s .pre .3) (s .args .f)
+    (sym (s .pre .5 .writer-at (s .args .f) (record-event (s .args .records .now) (s .args .f)
+    (s .pre .0, s .pre .1) .0) (record-event (s .args .records .now) (s .args .f)
     (s .pre .0, s .pre .1) .1)) ∙ c .if2 .taken)
 
 cast-task : tie.Need-cast-task
@@ -60,9 +63,9 @@ task-requires : tie.Need-task-requires
 task-requires c κs =
     let s = c .before .before .before .before .before .before .before .before .before .before in (
       omega (arith, c .before .if2 .left),
-      writer-in (s .args .records .now) (s .pre .3) (s .args .f) (s .pre .0, s .pre .1) _
-          (s .pre .5 .writer-at (s .args .f) (event-in (s .args .records .now) (s .pre .3) (s .args .f)
-          (s .pre .0, s .pre .1) .0) (event-in (s .args .records .now) (s .pre .3) (s .args .f)
+      writer-in (s .args .records .now) (s .args .f) (s .pre .0, s .pre .1) _
+          (s .pre .5 .writer-at (s .args .f) (record-event (s .args .records .now) (s .args .f)
+          (s .pre .0, s .pre .1) .0) (record-event (s .args .records .now) (s .args .f)
           (s .pre .0, s .pre .1) .1)),
     )
 
@@ -84,8 +87,8 @@ returns-2 c =
     (c .before .before .before .before .before .before .before .before .operation .ensures .1)
     (s .args .want .now) (s .args .latest .now) (c .before .before .before .before .before .before
     .before .if1 .taken) _
-    (s .pre .5 .writer-at (s .args .f) (event-in (s .args .records .now) (s .pre .3) (s .args .f)
-    (s .pre .0, s .pre .1) .0) (event-in (s .args .records .now) (s .pre .3) (s .args .f)
+    (s .pre .5 .writer-at (s .args .f) (record-event (s .args .records .now) (s .args .f)
+    (s .pre .0, s .pre .1) .0) (record-event (s .args .records .now) (s .args .f)
     (s .pre .0, s .pre .1) .1)) (c .before .before .before .before .before .if2 .left) _
     (c .before .before .before .task .ensures .1) in
     (c .before .before .raise .ensures ∙ x, y)
@@ -110,7 +113,8 @@ slice-read-top c =
     let s = c .before .before .before .before .before .before .before .before .before .before in
     omega (
       arith,
-      acquire-lock (s .args .records .now) (s .pre .3) (s .args .f) (s .pre .0, s .pre .1) _
+      acquire-lock (decodeAll (s .args .records .now)) (events-sound (s .args .records .now) (s .pre .3))
+          (s .args .f) _
           (c .before .before .before .before .operation .ensures .1) (c .before .before .if3 .left),
       c .before .object .ensures .1,
       s .pre .6 .long,
@@ -124,7 +128,8 @@ slice-write-latest c =
     let s = c .before .before .before .before .before .before .before .before .before .before .before in
     omega (
       arith,
-      acquire-lock (s .args .records .now) (s .pre .3) (s .args .f) (s .pre .0, s .pre .1) _
+      acquire-lock (decodeAll (s .args .records .now)) (events-sound (s .args .records .now) (s .pre .3))
+          (s .args .f) _
           (c .before .before .before .before .before .operation .ensures .1)
           (c .before .before .before .if3 .left),
       c .before .before .object .ensures .1,
@@ -152,7 +157,8 @@ slice-write-latest-2 c =
     .before in
     omega (
       arith,
-      acquire-lock (s .args .records .now) (s .pre .3) (s .args .f) (s .pre .0, s .pre .1) _
+      acquire-lock (decodeAll (s .args .records .now)) (events-sound (s .args .records .now) (s .pre .3))
+          (s .args .f) _
           (c .before .before .before .before .before .before .operation .ensures .1)
           (c .before .before .before .before .if3 .left),
       c .before .before .before .object .ensures .1,
@@ -267,8 +273,8 @@ returns-6 c =
     (c .before .before .before .before .before .before .before .before .before .object .ensures .1) _ refl
     (c .before .before .before .before .before .before .before .if4 .left)
     (c .before .before .before .before .before .before .if5 .left) _
-    (s .pre .5 .matching-at (s .args .f) (event-in (s .args .records .now) (s .pre .3) (s .args .f)
-    (s .pre .0, s .pre .1) .0) (event-in (s .args .records .now) (s .pre .3) (s .args .f)
+    (s .pre .5 .matching-at (s .args .f) (record-event (s .args .records .now) (s .args .f)
+    (s .pre .0, s .pre .1) .0) (record-event (s .args .records .now) (s .args .f)
     (s .pre .0, s .pre .1) .1)) _ (c .before .before .before .task3 .ensures .1) in
     (c .before .before .raise3 .ensures ∙ x, y)
 

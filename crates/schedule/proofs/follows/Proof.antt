@@ -9,7 +9,7 @@ use lib.ListN.{length}
 use Rattle.model.specs.Recording.{decodeAll}
 use Rattle.laws.proofs.Questions.{events-sound}
 use Rattle.schedule.specs.Next.{isNext}
-use Rattle.schedule.proofs.Laws.{acquire-lock}
+use Rattle.laws.proofs.WellFormed.{acquire-lock}
 use Rattle.schedule.proofs.Asking.{asked-none, event-in, asked-later, asked-read, asked-other}
 use Rattle.schedule.proofs.Asking.{asked-acquire}
 use Rattle.schedule.proofs.follows.Statement.{statement}

@@ -3,7 +3,7 @@ use native.Mathlib.Omega.{arith}
 use borrow.Author.Needs.{needs}
 use Rattle.model.specs.Recording.{decodeAll}
 use Rattle.laws.proofs.Questions.{events-sound}
-use Rattle.schedule.proofs.Laws.{acquire-lock}
+use Rattle.laws.proofs.WellFormed.{acquire-lock}
 use Rattle.schedule.proofs.Noting.{Unpacked, write-noted, acquire-noted, other-noted}
 use Rattle.schedule.proofs.note.Statement.{statement}
 use Rattle.schedule.proofs.note.Tie as tie
