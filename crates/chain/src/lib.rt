@@ -18,7 +18,7 @@ ghost use Rattle.frontier.specs.Visit.{Needed};
 ghost use Rattle.chain.specs.Attempted.{Attempted};
 
 // Copies a frontier, and extends the copy by the predecessor of event e.
-fn grow(
+pub fn grow(
     records: &[u8],
     predecessors: &[u16],
     writers: &[u16],

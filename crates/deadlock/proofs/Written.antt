@@ -1,15 +1,14 @@
 -- The events in the set of a frontier, one after the other, as they are counted and written. Assumes nothing.
 use Prim.Native.Nat.{ℕ, _+_, _-_, _≤_}
-use mathlib.Core.Path.{_≡_, refl, sym, ap, _∙_}
+use mathlib.Core.Path.{_≡_, refl, sym, _∙_}
 use mathlib.Core.Bool.{Bool, true, false}
 use mathlib.Core.List.{List, [], _∷_, _++_, append-nil}
 use native.Mathlib.Omega.{arith}
 use lib.Dec.{leb}
-use native.Mathlib.Nat.{zero-add}
-use lib.ListN.{length, getD, drop, length-append}
-use lib.Seq.{sets, sets-eq}
+use lib.ListN.{length, getD, length-append}
+use lib.Seq.{sets}
 use Rattle.model.specs.Lists.{filter, from}
-use Rattle.model.specs.Bytes.{encode, written}
+use Rattle.model.specs.Bytes.{encode}
 use Rattle.model.specs.Calls.Witness.{leastSchedule}
 use Rattle.model.specs.Trace.{Trace, task}
 use Rattle.laws.proofs.Lists.{from-iff, from-split, from-length}
@@ -87,9 +86,3 @@ behind-schedule σ p front z =
     let n : length σ + 1 - 1 ≡ length σ = omega arith in
     rw n (filter-ext _ _ (from 1 (length σ)) (λ e m.
     let inside = from-iff 1 (length σ) e .0 m in sym (z .members e (inside .0) (omega arith))))
-
--- Stores at the front of an output that has room.
-pub sets-written : (bs out : List ℕ) → length bs ≤ length out → sets out 0 bs ≡ written bs out
-sets-written bs out h =
-    let room : 0 + length bs ≤ length out = omega arith in
-    sets-eq bs out 0 room ∙ ap (λ (n : ℕ). bs ++ drop n out) (zero-add (length bs))

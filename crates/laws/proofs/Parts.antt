@@ -1,12 +1,13 @@
 -- Laws of a part that runs to the end, `&s[a..]` and `&mut s[a..]`, and of `sets l i vs`, the list l with vs
 -- stored from i on. Assumes nothing.
-use Prim.Native.Nat.{ℕ, suc, _+_, _-_}
+use Prim.Native.Nat.{ℕ, suc, _+_, _-_, _≤_}
 use mathlib.Core.Path.{_≡_, sym, ap, ap₂, _∙_}
 use mathlib.Core.List.{List, [], _∷_, _++_, append-nil}
 use native.Mathlib.Omega.{arith}
-use native.Mathlib.Nat.{add-zero, add-suc, le-of-eq, le-add-right}
+use native.Mathlib.Nat.{zero-add, add-zero, add-suc, le-of-eq, le-add-right}
 use lib.ListN.{length, take, drop, set, length-drop, drop-of-length-le, take-append-drop}
-use lib.Seq.{sets, take-all, take-set-le, drop-set-add}
+use lib.Seq.{sets, sets-eq, take-all, take-set-le, drop-set-add}
+use Rattle.model.specs.Bytes.{written}
 
 module _ {A : Type 0} where
   -- ---- a part to the end
@@ -47,3 +48,9 @@ module _ {A : Type 0} where
       put-from a l r
       ∙ ap (λ (t : List A). take a l ++ t) (h ∙ ap (λ (t : List A). sets t 0 ys) (part-from a l))
       ∙ sets-drop a l 0 ys ∙ ap (λ (k : ℕ). sets l k ys) (add-zero a)
+
+-- Stores at the front of an output that has room.
+pub sets-written : (bs out : List ℕ) → length bs ≤ length out → sets out 0 bs ≡ written bs out
+sets-written bs out h =
+    let room : 0 + length bs ≤ length out = omega arith in
+    sets-eq bs out 0 room ∙ ap (λ (n : ℕ). bs ++ drop n out) (zero-add (length bs))

@@ -12,7 +12,7 @@ use lib.Dec.{T, T-not, eqb, not-T}
 use lib.Bits.{bitAnd}
 use lib.ListN.{length, getD}
 use Rattle.model.specs.Lists.{from, hasBit}
-use Rattle.model.specs.Trace.{Trace, task, object, isAcquire}
+use Rattle.model.specs.Trace.{Trace, tasks, task, object, isAcquire}
 use Rattle.model.specs.Relations.{predecessor, held}
 use Rattle.model.specs.EventSet.{has}
 use Rattle.model.specs.Pattern.{isDeadlock, closureBefore}
@@ -21,7 +21,7 @@ use Rattle.laws.specs.Walk.{extensions, branch, Rooted, Covers, Leading,
 use Rattle.laws.proofs.Tests.{decided, and-iff, or-l, is-false, eq→eqb}
 use Rattle.laws.proofs.Lists.{from-iff}
 use Rattle.laws.proofs.Filters.{each-none}
-use Rattle.laws.proofs.Bits.{hasBit-or, hasBit-bit, apart-or}
+use Rattle.laws.proofs.Bits.{hasBit-none, hasBit-or, hasBit-bit, apart-iff, apart-or}
 use Rattle.laws.proofs.Trace.{sameTask-iff}
 use Rattle.laws.proofs.Relations.{predecessor-below, predecessor-own, predecessor-latest}
 use Rattle.laws.proofs.WellFormed.{WellFormed, lock-lt}
@@ -68,6 +68,21 @@ module _ (σ : Trace) where
       }
 
   -- ---- the way back to the first event
+
+  -- What leads from any acquire to another also leads from those beside one event.
+  pub leading-all : WellFormed σ → (a : ℕ) (lead : List ℕ) → Leading σ 0 tasks 0 lead
+      → Leading σ a (task σ a) (held σ a) lead
+  leading-all ok a lead z = record {
+    long = z .long;
+    leads = λ e h k t d g. z .leads e (omega arith) k t (λ q. absurd (omega (
+      arith,
+      ok .task-lt e
+          (omega arith) k,
+    ))) (apart-none (held σ e));
+  }
+    where
+      apart-none : (m : ℕ) → T (eqb (bitAnd 0 m) 0)
+      apart-none m = apart-iff 0 m .1 (λ l t u. rw (hasBit-none l) at t)
 
   -- The locks that lead back, for a table of those that were held at other acquires.
   pub returning-spread : WellFormed σ → (a count : ℕ) (lead back : List ℕ)

@@ -5,6 +5,7 @@ use lib.Count.{ones}
 use lib.ListN.{length}
 use Rattle.model.specs.declared.Relations.{Relations}
 use Rattle.model.specs.declared.Load.{Load}
+use Rattle.model.specs.declared.Listed.{Listed}
 use Rattle.model.specs.declared.Verdict.{Verdict}
 use Rattle.model.specs.declared.Witness.{Witness}
 use Rattle.model.specs.Lists.{filter, from}
@@ -47,6 +48,10 @@ lockLoad σ l = record {
   event = 0;
   percent = percent (length (filter (isHeldAfter σ l) (from 1 (length σ)))) (length σ);
 }
+
+-- The listing call, refused.
+abbrev pub refusedListing : ℕ → ℕ → Listed
+refusedListing refusal event = record { refusal = refusal; event = event; patterns = 0; bytes = 0 }
 
 -- The verdict call, refused.
 abbrev pub refusedVerdict : ℕ → ℕ → Verdict

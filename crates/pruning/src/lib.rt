@@ -1,17 +1,18 @@
 // What the search for deadlocks passes over: events that hold no lock, by links to the next one that does,
 // and chains whose last lock cannot lead back to the first event.
-ghost use Prim.Native.Nat.{ℕ, _+_, _*_, _<_, _≤_};
+ghost use Prim.Native.Nat.{ℕ, _+_, _-_, _*_, _<_, _≤_};
 ghost use mathlib.Core.Path.{_≡_};
 ghost use mathlib.Core.Bool.{cond};
 ghost use lib.Dec.{T};
 ghost use lib.ListN.{length, getD};
 ghost use Rattle.model.specs.Lists.{hasBit};
-ghost use Rattle.model.specs.Trace.{locks, isAcquire};
+ghost use Rattle.model.specs.Trace.{locks, task, object, isAcquire};
+ghost use Rattle.model.specs.Relations.{held};
 ghost use Rattle.model.specs.Recording.{decodeAll};
 ghost use Rattle.model.specs.Pattern.{largestPattern};
 ghost use Rattle.model.specs.Calls.Check.{checkEvents};
 ghost use Rattle.laws.specs.Chain.{signature, fits, chainOf};
-ghost use Rattle.laws.specs.Walk.{First, Covers, Leading, Spread};
+ghost use Rattle.laws.specs.Walk.{First, Covers, Leading, Spread, Returning};
 ghost use Rattle.deadlock.specs.Judged.{Holding};
 ghost use Rattle.pruning.specs.Linked.{isNested, Linked, Led};
 
@@ -165,4 +166,27 @@ pub fn fill_back(lead: &[u64], held: u64, back: &mut [u64], count: usize)
         back[i] = widen(lead, back[i - 1]);
         i = i + 1;
     }
+}
+
+// Whether a chain of at most `count` events that begins with the acquire a may return to it, with the locks
+// that lead back after each number of events more.
+pub fn leads_back(
+    records: &[u8],
+    holding: &[u64],
+    lead: &[u64],
+    a: usize,
+    back: &mut [u64],
+    count: usize,
+) -> bool
+    requires { ⌜ (1 ≤ a) × (2 * a ≤ length (now records)) × (length (now records) ≤ 8190)
+        × (checkEvents (decodeAll (now records)) .refusal ≡ 0) × Holding (decodeAll (now records)) (now holding)
+        × T (isAcquire (decodeAll (now records)) a)
+        × Leading (decodeAll (now records)) a (task (decodeAll (now records)) a) (held (decodeAll (now records)) a)
+        (now lead)
+        × (length (now back) ≡ largestPattern) × (1 ≤ count) × (count ≤ largestPattern) ⌝ }
+    ensures { λ r. ⌜ Returning (decodeAll (now (records .entry))) a count (now (back .exit))
+        × (r ≡ hasBit (getD (now (back .exit)) (count - 1) 0) (object (decodeAll (now (records .entry))) a)) ⌝ }
+{
+    fill_back(lead, holding[a], back, count);
+    deadlock::in_mask(back[count - 1], recording::object(records, a) as u64)
 }

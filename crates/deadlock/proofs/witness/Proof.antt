@@ -18,7 +18,8 @@ use Rattle.laws.proofs.Questions.{check-bytes, part-trace, part-small, part-acc
 use Rattle.deadlock.specs.Judged.{judged, Reached, behind}
 use Rattle.deadlock.proofs.Answers.{witness-unchecked, witness-none, witness-not, witness-short}
 use Rattle.deadlock.proofs.Answers.{witness-written}
-use Rattle.deadlock.proofs.Written.{behind-schedule, sets-written}
+use Rattle.laws.proofs.Parts.{sets-written}
+use Rattle.deadlock.proofs.Written.{behind-schedule}
 use Rattle.deadlock.proofs.witness.Statement.{statement}
 use Rattle.deadlock.proofs.witness.Tie as tie
 

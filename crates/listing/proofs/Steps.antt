@@ -1,0 +1,111 @@
+-- One turn of the scan: the chain is still open, and what is asked where an event is attempted and followed.
+-- Assumes nothing.
+use Prim.Native.Nat.{ℕ, suc, _-_, _^_, _≤_}
+use mathlib.Core.Path.{_≡_, refl, sym, ap, subst, _∙_}
+use mathlib.Core.Logic.{_≢_}
+use mathlib.Core.Bool.{true, false, cond}
+use mathlib.Core.List.{List}
+use native.Mathlib.Omega.{arith}
+use lib.Dec.{T, eqb}
+use lib.Bits.{bitOr}
+use lib.ListN.{length, getD, take}
+use Rattle.model.specs.Lists.{all}
+use Rattle.model.specs.Trace.{Trace, task, isEvent}
+use Rattle.model.specs.Pattern.{largestPattern}
+use Rattle.laws.specs.Chain.{Chain, signature, fits}
+use Rattle.laws.specs.Frontier.{Before}
+use Rattle.laws.specs.Walk.{First, extensions, branch, Returning}
+use Rattle.chain.specs.Attempted.{Along, Attempted}
+use Rattle.entries.specs.declared.Found.{Found}
+use Rattle.entries.specs.Taken.{Adds, Roomy}
+use Rattle.listing.specs.Open.{chainAt, Open, Descending}
+use Rattle.listing.proofs.Paths.{chain-kept, returning-fewer}
+use Rattle.listing.proofs.Scans.{passes, Scanning, scanning-fits, scanning-over, scanning-next}
+use Rattle.listing.proofs.Scans.{scanning-end}
+
+module _ (σ : Trace) (path₀ : List ℕ) (len left tasks guards : ℕ) (front latest : List ℕ)
+    (o : Open σ path₀ len left tasks guards front latest) (path : List ℕ) (long : length path ≡ largestPattern)
+    (kept : take len path ≡ take len path₀) where
+  -- The chain of the path is the one that is extended.
+  pub same-chain : chainAt path len tasks guards ≡ chainAt path₀ len tasks guards
+  same-chain = chain-kept path path₀ len tasks guards kept (o .some)
+
+  -- So is its first event.
+  pub same-first : getD path 0 0 ≡ getD path₀ 0 0
+  same-first = ap (λ (c : Chain). c .first) same-chain
+
+  -- It has its events,
+  pub still-events : T (all (isEvent σ) (take len path))
+  still-events = rw kept (o .events)
+
+  -- its frontier,
+  pub still-before : Before σ (take len path) front latest
+  still-before = rw kept (o .before)
+
+  -- and the same ways back.
+  pub still-returning : 1 ≤ left → (back : List ℕ) → Returning σ (getD path₀ 0 0) left back
+      → Returning σ (getD path 0 0) (suc (left - 1)) back
+  still-returning h back z =
+      rw same-first (returning-fewer σ (getD path₀ 0 0) left (suc (left - 1)) back (omega arith) z)
+
+  -- The chain goes along the path.
+  pub still-along : Along σ (take len path) (getD path 0 0) (chainAt path₀ len tasks guards)
+  still-along = record { events = sym kept; begins = sym same-first; rooted = o .rooted }
+
+  -- An event that was attempted may be followed.
+  pub descending : 1 ≤ left → (room excluded e : ℕ) (out₀ out : List ℕ) (f₀ f : Found) (met : ℕ)
+      (grown newest : List ℕ)
+      → Scanning σ (left - 1) (chainAt path₀ len tasks guards) room excluded e out₀ out f₀ f → e ≢ 0
+      → Attempted σ (left - 1) (take len path) (getD path 0 0) e met grown newest
+      → Descending σ path len (left - 1) tasks guards e met grown newest
+  descending h room excluded e out₀ out f₀ f met grown newest z d a = record {
+    long = long;
+    some = o .some;
+    sized = omega (arith, o .sized);
+    events = still-events;
+    rooted = rw same-chain (o .rooted);
+    event = (omega (arith, z .event d .0), z .event d .1);
+    follows = ap (λ (c : Chain). fits (signature σ) c e) same-chain
+        ∙ scanning-fits σ (left - 1) (chainAt path₀ len tasks guards) room excluded e out₀ out f₀ f z d;
+    deadlock = a .deadlock;
+    before = a .grows;
+    dropped = λ n. rw same-chain (a .dropped n (chainAt path₀ len tasks guards) still-along);
+  }
+
+  module _ (h : 1 ≤ left) (inside : getD path₀ 0 0 ≤ length σ) (room excluded e : ℕ) (out₀ out out′ : List ℕ)
+      (f₀ f f′ : Found) (z : Scanning σ (left - 1) (chainAt path₀ len tasks guards) room excluded e out₀ out f₀ f)
+      (d : e ≢ 0) (a : Adds room (branch σ (left - 1) (chainAt path len tasks guards) e) out out′ f f′) where
+    added : Adds room (branch σ (left - 1) (chainAt path₀ len tasks guards) e) out out′ f f′
+    added = rw (← same-chain) a
+
+    -- Where it exceeds the room, so does all.
+    pub step-over : f′ .full ≡ true → Adds room (extensions σ left (chainAt path₀ len tasks guards)) out₀ out′ f₀
+        f′
+    step-over y =
+        let q : left ≡ suc (left - 1) = omega arith in
+        rw q (scanning-over σ (left - 1) (chainAt path₀ len tasks guards) inside room excluded e out₀ out out′ f₀ f
+        f′ z d added y)
+
+    -- The scan goes on with the next event that passes.
+    pub step-next : (met : ℕ) (grown newest : List ℕ)
+        → Attempted σ (left - 1) (take len path) (getD path 0 0) e met grown newest → (excluded′ x : ℕ)
+        → excluded′ ≡ cond (eqb met 2) (bitOr excluded (2 ^ (task σ e))) excluded
+        → First (passes σ (chainAt path₀ len tasks guards) excluded′) (length σ) e x → Roomy room f′
+        → f′ .full ≡ false
+        → Scanning σ (left - 1) (chainAt path₀ len tasks guards) room excluded′ x out₀ out′ f₀ f′
+    step-next met grown newest t =
+        scanning-next σ (left - 1) (chainAt path₀ len tasks guards) inside room excluded e out₀ out out′ f₀ f f′ z
+        d added (take len path) met grown newest (record {
+          events = sym kept;
+          begins = refl;
+          rooted = o .rooted;
+        })
+        (subst (λ (x : ℕ). Attempted σ (left - 1) (take len path) x e met grown newest) same-first t)
+
+-- At the end all is taken.
+pub step-end : (σ : Trace) (left : ℕ) (c : Chain) → c .first ≤ length σ → 1 ≤ left → (room excluded e : ℕ)
+    (out₀ out : List ℕ) (f₀ f : Found) → Scanning σ (left - 1) c room excluded e out₀ out f₀ f → e ≡ 0
+    → Adds room (extensions σ left c) out₀ out f₀ f
+step-end σ left c inside h room excluded e out₀ out f₀ f z q =
+    let s : left ≡ suc (left - 1) = omega arith in
+    rw s (scanning-end σ (left - 1) c inside room excluded e out₀ out f₀ f z q)
