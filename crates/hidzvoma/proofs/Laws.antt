@@ -1,0 +1,159 @@
+-- A refusal's number and event are small, and the numbers that the entries return. Assumes nothing.
+use Prim.Native.Nat.{ℕ, _+_, _-_, _*_, _/_, _≤_, _<_}
+use mathlib.Core.Path.{_≡_, sym, subst, _∙_}
+use mathlib.Core.Logic.{_≢_, ⊎-elim}
+use mathlib.Core.Bool.{Bool, true, false, cond, not, _&&_, _||_}
+use mathlib.Core.List.{List}
+use native.Mathlib.Omega.{arith}
+use lib.Dec.{T, eqb, leb, ltb}
+use lib.ListN.{length, getD, drop, length-drop}
+use borrow.Author.Tests.{eq-eqb}
+use Rattle.model.specs.declared.Outcome.{Outcome}
+use Rattle.model.specs.Recording.{format, eventCount, trace}
+use Rattle.model.specs.WellFormed.{isFree, fault, firstFault}
+use Rattle.model.specs.Trace.{Trace, locks, task, object, isRead, isAcquire, isRelease}
+use Rattle.model.specs.Relations.{writer, holds}
+use Rattle.model.specs.Bytes.{numbers, isWhole}
+use Rattle.model.specs.Pattern.{smallestPattern, largestPattern, isPattern}
+use Rattle.model.specs.Calls.Questions.{outcome, isAccepted, _then_, asked, permitsSize, fitsOutput}
+use Rattle.model.specs.Calls.Questions.{lendsPattern}
+use Rattle.model.specs.Calls.Check.{checkEvents, check}
+use Rattle.model.specs.Calls.List.{entries, listing, listRefusal, list}
+use Rattle.model.specs.Calls.Verdict.{verdictRefusal, verdict}
+use Rattle.model.specs.Calls.Entries.{entryNumber, listEntry, verdictEntry}
+use Rattle.laws.proofs.Tests.{cond-elim, decided, equal?, at-most?}
+use Rattle.laws.proofs.Trace.{decodeAll-length}
+use Rattle.laws.proofs.Searches.{firstFrom-earliest}
+use Rattle.laws.proofs.Questions.{check-short, check-format, check-length, check-events}
+use Rattle.laws.proofs.Calls.{list-refusal}
+
+-- ---- refusals are small
+
+-- A number of a question, and of an event.
+pub record Small (o : Outcome) : Type 0 where
+  pub refusal-le : o .refusal ≤ 14
+  pub event-le : o .event ≤ 4095
+
+-- A question's.
+pub asked-small : (n : ℕ) (b : Bool) → n ≤ 14 → Small (asked n b)
+asked-small n true l = record { refusal-le = omega arith; event-le = omega arith }
+asked-small n false l = record { refusal-le = l; event-le = omega arith }
+
+-- A chain's.
+pub then-small : (o p : Outcome) → Small o → Small p → Small (o then p)
+then-small o p s t = cond-elim Small (isAccepted o) p o (λ y. t) (λ n. s)
+
+-- A fault's number.
+fault-le : (σ : Trace) (e : ℕ) → fault σ e ≤ 7
+unfolding fault
+fault-le σ e =
+    number ((isAcquire σ e || isRelease σ e) && not (ltb (object σ e) locks)) (isAcquire σ e && not (isFree σ e))
+    (isRelease σ e && not (holds σ e (task σ e) (object σ e))) (isRead σ e && eqb (writer σ e) 0)
+  where
+    number : (a b c d : Bool) → cond a 4 (cond b 5 (cond c 6 (cond d 7 0))) ≤ 7
+    number true b c d = omega arith
+    number false true c d = omega arith
+    number false false true d = omega arith
+    number false false false true = omega arith
+    number false false false false = omega arith
+
+-- The events'.
+events-small : (σ : Trace) → length σ ≤ 4095 → Small (checkEvents σ)
+unfolding checkEvents firstFault
+events-small σ l =
+    cond-elim Small (eqb (firstFault σ) 0) (outcome 0 0) (outcome (fault σ (firstFault σ)) (firstFault σ))
+    (λ y. record { refusal-le = omega arith; event-le = omega arith })
+    (λ n. record { refusal-le = omega (arith, fault-le σ (firstFault σ)); event-le = event })
+  where
+    event : firstFault σ ≤ 4095
+    event =
+        let found = firstFrom-earliest 1 (length σ) (λ e. ltb 0 (fault σ e)) in
+        ⊎-elim (λ (z : firstFault σ ≡ 0). omega arith) (λ d. omega (arith, found .below d))
+        (equal? (firstFault σ) 0)
+
+count-lt : (b : List ℕ) → getD b 1 0 < 256 → eventCount b < 4096
+unfolding eventCount
+count-lt b h = omega arith
+
+trace-length : (b : List ℕ) → length (trace b) ≤ length b / 2 - 1
+unfolding trace
+trace-length b = omega (arith, decodeAll-length (drop 2 b), length-drop 2 b)
+
+-- The check's.
+pub check-small : (b : List ℕ) → getD b 1 0 < 256 → Small (check b)
+check-small b h =
+    ⊎-elim (λ (l : 2 ≤ length b). ⊎-elim
+    (λ (f : format b ≡ 1). ⊎-elim
+    (λ (q : length b ≡ 2 + 2 * eventCount b). rw (check-events b l f q) (events-small (trace b) (size q)))
+    (λ d. rw (check-length b l f d) (asked-small 3 false (omega arith)))
+    (equal? (length b) (2 + 2 * eventCount b)))
+    (λ d. rw (check-format b l d) (asked-small 2 false (omega arith))) (equal? (format b) 1))
+    few (at-most? 2 (length b))
+  where
+    few : length b < 2 → Small (check b)
+    few l = rw (check-short b l) (asked-small 1 false (omega arith))
+
+    size : length b ≡ 2 + 2 * eventCount b → length (trace b) ≤ 4095
+    size q = omega (arith, count-lt b h, trace-length b)
+
+-- The listing's.
+pub list-small : (b : List ℕ) (k room : ℕ) → getD b 1 0 < 256 → Small (listRefusal b k room)
+unfolding listRefusal permitsSize fitsOutput
+list-small b k room h =
+    then-small (check b) (permitsSize k then fitsOutput (entries (listing b k)) room) (check-small b h)
+    (then-small (permitsSize k) (fitsOutput (entries (listing b k)) room)
+    (asked-small 8 (eqb k 0 || (leb smallestPattern k && leb k largestPattern)) (omega arith))
+    (asked-small 13 (leb (length (entries (listing b k))) room) (omega arith)))
+
+-- The verdict's.
+pub verdict-small : (b p : List ℕ) → getD b 1 0 < 256 → Small (verdictRefusal b p)
+unfolding verdictRefusal lendsPattern
+verdict-small b p h =
+    then-small (check b) (lendsPattern (trace b) p) (check-small b h)
+    (asked-small 10 (isWhole p && isPattern (trace b) (numbers p)) (omega arith))
+
+-- ---- the numbers returned
+
+module _ (b : List ℕ) (k room : ℕ) where
+  -- The listing's refusal fits an entry's number,
+  pub list-bounds : getD b 1 0 < 256 → (list b k room .refusal < 65536) × (list b k room .event < 65536)
+  unfolding list
+  list-bounds h =
+      let s = list-small b k room h in
+      decided (isAccepted (listRefusal b k room)) (λ y. rw y (omega arith, omega arith))
+      (λ n. rw n (omega (arith, s .refusal-le), omega (arith, s .event-le)))
+
+  -- which is odd for it,
+  pub list-refused : list b k room .refusal ≢ 0
+      → 2 * (65536 * list b k room .refusal + list b k room .event) + 1 ≡ listEntry b k room
+  unfolding list listEntry entryNumber
+  list-refused d =
+      decided (isAccepted (listRefusal b k room)) (λ y. absurd (d (rw y))) (λ n. rw n)
+
+  -- and is otherwise that of the bytes written.
+  pub list-bytes : list b k room .refusal ≡ 0 → list b k room .bytes ≡ listEntry b k room
+  unfolding listEntry entryNumber
+  list-bytes q = rw (eq-eqb (listRefusal b k room .refusal) 0 (sym (list-refusal b k room) ∙ q))
+
+module _ (b p : List ℕ) where
+  -- The verdict's refusal fits an entry's number,
+  pub verdict-bounds : getD b 1 0 < 256 → (verdict b p .refusal < 65536) × (verdict b p .event < 65536)
+  unfolding verdict
+  verdict-bounds h =
+      let s = verdict-small b p h in
+      decided (isAccepted (verdictRefusal b p)) (λ y. rw y (omega arith, omega arith))
+      (λ n. rw n (omega (arith, s .refusal-le), omega (arith, s .event-le)))
+
+  -- which is odd for it,
+  pub verdict-refused : verdict b p .refusal ≢ 0
+      → 2 * (65536 * verdict b p .refusal + verdict b p .event) + 1 ≡ verdictEntry b p
+  unfolding verdict verdictEntry entryNumber
+  verdict-refused d =
+      decided (isAccepted (verdictRefusal b p)) (λ y. absurd (d (rw y))) (λ n. rw n)
+
+  -- and otherwise 2 or 0.
+  pub verdict-number : verdict b p .refusal ≡ 0 → cond (verdict b p .deadlock) 2 0 ≡ verdictEntry b p
+  unfolding verdict verdictEntry entryNumber
+  verdict-number q =
+      decided (isAccepted (verdictRefusal b p)) (λ y. rw y)
+      (λ n. absurd (subst T (sym (eq-eqb (verdictRefusal b p .refusal) 0 (rw n at q)) ∙ n) tt))
