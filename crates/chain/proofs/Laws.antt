@@ -1,6 +1,7 @@
 -- The events of a path, and what an attempt at one event more decides. Assumes nothing.
 use Prim.Native.Nat.{ℕ, suc, _+_, _*_, _≤_, _<_}
 use mathlib.Core.Path.{_≡_, refl, sym, ap, _∙_}
+use mathlib.Core.Logic.{⊎-elim, _≢_}
 use mathlib.Core.Bool.{Bool, true, false, not, _&&_, and-true}
 use mathlib.Core.List.{List, [], _∷_, _++_}
 use native.Mathlib.Omega.{arith}
@@ -9,21 +10,22 @@ use lib.ListN.{length, getD, take, drop, length-take, drop-of-length-le}
 use lib.Seq.{getD-take}
 use Rattle.model.specs.Lists.{all, hasBit}
 use Rattle.model.specs.Trace.{Trace, task, object, isEvent}
-use Rattle.model.specs.Relations.{held}
+use Rattle.model.specs.Relations.{predecessor, held}
 use Rattle.model.specs.Recording.{decodeAll}
 use Rattle.model.specs.Pattern.{isDeadlock}
 use Rattle.laws.specs.Chain.{Chain, signature, add}
-use Rattle.laws.specs.Frontier.{Before}
+use Rattle.laws.specs.Frontier.{Settled, raised, Advanced, Before}
 use Rattle.laws.specs.Walk.{Returning}
-use Rattle.laws.proofs.Tests.{is-false, and-i, not-false}
+use Rattle.laws.proofs.Tests.{is-false, and-i, not-false, equal?}
 use Rattle.laws.proofs.Lists.{all-at, all-iff, all-append, all-fails}
 use Rattle.laws.proofs.Extensions.{branch-not, branch-nowhere}
-use Rattle.laws.proofs.Returning.{add-rooted, not-deadlock-later}
+use Rattle.laws.proofs.Returning.{add-rooted, not-deadlock-later, before-again}
 use Rattle.laws.proofs.Trace.{isEvent-iff, decodeAll-length}
+use Rattle.laws.proofs.WellFormed.{WellFormed}
 use Rattle.laws.proofs.Pattern.{events-inside}
-use Rattle.laws.proofs.Before.{before-deadlock}
+use Rattle.laws.proofs.Before.{before-extend, before-deadlock}
 use Rattle.deadlock.proofs.Verdicts.{all-next}
-use Rattle.chain.specs.Attempted.{Along, Attempted}
+use Rattle.chain.specs.Attempted.{Along, Reusable, Attempted}
 
 -- ---- the events of a path
 
@@ -66,10 +68,10 @@ path-more σ p e t h k =
 module _ (σ : Trace) (k : ℕ) (p : List ℕ) (first e : ℕ) where
   -- A lock that does not lead back.
   pub attempted-nowhere : (back grown newest : List ℕ) → Returning σ first (suc k) back
-      → hasBit (getD back k 0) (object σ e) ≡ false → Attempted σ k p first e 1 grown newest
+      → hasBit (getD back k 0) (object σ e) ≡ false → Attempted σ k p first e 3 grown newest
   attempted-nowhere back grown newest z h = record {
     deadlock = λ q. absurd (omega arith);
-    grows = λ q. absurd (omega arith);
+    grows = λ d. absurd (d refl);
     dropped = λ d c a.
         branch-nowhere σ k c e (rw (a .begins) (unclosed c a)) (z .nowhere k (omega arith)
         (add (signature σ) c e) (a .begins) (add-rooted σ c e (a .rooted)) h);
@@ -98,7 +100,7 @@ module _ (σ : Trace) (k : ℕ) (p : List ℕ) (first e : ℕ) where
         → Attempted σ k p first e 2 grown newest
     attempted-met h = record {
       deadlock = λ q. absurd (omega arith);
-      grows = λ q. absurd (omega arith);
+      grows = λ d. z;
       dropped = λ d c a. branch-not σ k c e (rw (a .events, verdict, h));
       later = λ q c a f l m s. branch-not σ k c f (rw (a .events) (after f l m s));
     }
@@ -116,7 +118,7 @@ module _ (σ : Trace) (k : ℕ) (p : List ℕ) (first e : ℕ) where
       pub attempted-itself : leb e (getD grown (task σ e) 0) ≡ true → Attempted σ k p first e 1 grown newest
       attempted-itself y = record {
         deadlock = λ q. absurd (omega arith);
-        grows = λ q. absurd (omega arith);
+        grows = λ d. z;
         dropped = λ d c a. branch-not σ k c e (rw (a .events, verdict, h, y));
         later = λ q. absurd (omega arith);
       }
@@ -125,7 +127,38 @@ module _ (σ : Trace) (k : ℕ) (p : List ℕ) (first e : ℕ) where
       pub attempted-deadlock : leb e (getD grown (task σ e) 0) ≡ false → Attempted σ k p first e 0 grown newest
       attempted-deadlock n = record {
         deadlock = λ q. rw (verdict, h, n);
-        grows = λ q. z;
+        grows = λ d. z;
         dropped = λ d. absurd (d refl);
         later = λ q. absurd (omega arith);
       }
+
+-- ---- the frontier from which another is reached
+
+module _ (σ : Trace) (of e : ℕ) (front latest grown newest base top : List ℕ)
+    (kept : task σ e ≡ of → (base ≡ grown) × (top ≡ newest))
+    (copied : task σ e ≢ of → (base ≡ front) × (top ≡ latest)) where
+  -- It is at rest.
+  pub grow-settled : Settled σ front front latest → (task σ e ≡ of → Settled σ grown grown newest)
+      → Settled σ base base top
+  grow-settled z y =
+      ⊎-elim (λ q. let (i, j) = kept q in rw (i, j) (y q)) (λ d. let (i, j) = copied d in rw (i, j) z)
+      (equal? (task σ e) of)
+
+  -- Extended by the predecessor of e, it is that of the predecessors of the events and e.
+  pub grow-reaches : WellFormed σ → (front′ latest′ : List ℕ) → 1 ≤ e → e ≤ length σ
+      → Advanced σ (raised base (task σ e) (predecessor σ e)) front′ latest′ → (p : List ℕ)
+      → T (all (isEvent σ) p) → Reusable σ p of e front latest grown newest
+      → Before σ (p ++ e ∷ []) front′ latest′
+  grow-reaches ok front′ latest′ h l a p t z = ⊎-elim again anew (equal? (task σ e) of)
+    where
+      again : task σ e ≡ of → Before σ (p ++ e ∷ []) front′ latest′
+      again q =
+          let (i, j) = kept q in
+          let (d, low, less, same, before) = z .again q in
+          before-again σ ok p grown newest d e front′ latest′ before low less same
+          (events-inside σ (p ++ e ∷ []) (path-more σ p e t h l)) (rw i at a)
+
+      anew : task σ e ≢ of → Before σ (p ++ e ∷ []) front′ latest′
+      anew d =
+          let (i, j) = copied d in
+          before-extend σ ok p front latest e front′ latest′ (z .before) h l (rw i at a)

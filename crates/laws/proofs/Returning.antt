@@ -18,7 +18,7 @@ use Rattle.model.specs.EventSet.{has}
 use Rattle.model.specs.Pattern.{isDeadlock, closureBefore}
 use Rattle.laws.specs.Chain.{Chain, signature, start, add, fits}
 use Rattle.laws.specs.Walk.{extensions, branch, Rooted, Covers, Leading, Spread, Returning}
-use Rattle.laws.proofs.Tests.{decided, and-iff, or-l, is-false, eq→eqb}
+use Rattle.laws.proofs.Tests.{T-ext, decided, and-iff, or-l, is-false, eq→eqb}
 use Rattle.laws.proofs.Lists.{from-iff}
 use Rattle.laws.proofs.Filters.{each-none}
 use Rattle.laws.proofs.Bits.{hasBit-none, hasBit-or, hasBit-bit, apart-iff, apart-or}
@@ -28,6 +28,8 @@ use Rattle.laws.proofs.WellFormed.{WellFormed, lock-lt}
 use Rattle.laws.proofs.EventSet.{In, Within}
 use Rattle.laws.proofs.Frontier.{closed-earlier}
 use Rattle.laws.proofs.Verdict.{before-least, before-closed, before-contains, isDeadlock-iff}
+use Rattle.laws.specs.Frontier.{raised, Advanced, Before}
+use Rattle.laws.proofs.Before.{before-extend}
 use Rattle.laws.proofs.Pattern.{Inside}
 use Rattle.laws.proofs.Extensions.{extensions-zero, extensions-suc, branch-unfit, branch-nowhere}
 
@@ -163,3 +165,39 @@ module _ (σ : Trace) where
   not-deadlock-later p e f x inside l k q m h =
       is-false (isDeadlock σ (p ++ f ∷ [])) (not-T (isDeadlock σ (p ++ f ∷ [])) (λ t.
       isDeadlock-iff σ (p ++ f ∷ []) .0 t x (Memᴰ·append-left (f ∷ []) m) (before-later p e f inside l k q x h)))
+
+  -- So the frontier before an earlier event of the task may be extended to that before a later one.
+  pub before-again : WellFormed σ → (p front latest : List ℕ) (d e : ℕ) (front′ latest′ : List ℕ)
+      → Before σ (p ++ d ∷ []) front latest → 1 ≤ d → d < e → task σ d ≡ task σ e → Inside σ (p ++ e ∷ [])
+      → Advanced σ (raised front (task σ e) (predecessor σ e)) front′ latest′
+      → Before σ (p ++ e ∷ []) front′ latest′
+  before-again ok p front latest d e front′ latest′ z h k q inside a =
+      let high = inside e (Memᴰ·append-right p (List·Memᴰ·head refl)) in
+      let both = before-extend σ ok (p ++ d ∷ []) front latest e front′ latest′ z (omega arith) high a in record {
+        settled = both .settled;
+        members = λ x i j. T-ext (has (closureBefore σ (p ++ e ∷ [])) x) (has (closureBefore σ (p ++ d ∷ [] ++ e ∷ [])) x)
+            (fewer x) (more x) ∙ both .members x i j;
+      }
+    where
+      all-in : Inside σ (p ++ d ∷ [] ++ e ∷ [])
+      all-in x m = ⊎-elim
+          (λ n. ⊎-elim (λ o. inside x (Memᴰ·append-left (e ∷ []) o))
+          (λ o. let high = inside e (Memᴰ·append-right p (List·Memᴰ·head refl)) in
+          let s = List·Memᴰ·eq-of-singleton o in omega arith) (List·Memᴰ·append-cases p n))
+          (λ n. inside x (Memᴰ·append-right p n)) (List·Memᴰ·append-cases (p ++ d ∷ []) m)
+
+      fewer : Within (closureBefore σ (p ++ e ∷ [])) (In (closureBefore σ (p ++ d ∷ [] ++ e ∷ [])))
+      fewer = before-least σ _ (before-closed σ (p ++ d ∷ [] ++ e ∷ [])) (p ++ e ∷ []) (λ x m.
+          before-contains σ (p ++ d ∷ [] ++ e ∷ []) all-in x (⊎-elim
+          (λ n. Memᴰ·append-left (e ∷ []) (Memᴰ·append-left (d ∷ []) n))
+          (λ n. Memᴰ·append-right (p ++ d ∷ []) n) (List·Memᴰ·append-cases p m)))
+
+      sub-in : Inside σ (p ++ d ∷ [])
+      sub-in x m = all-in x (Memᴰ·append-left (e ∷ []) m)
+
+      more : Within (closureBefore σ (p ++ d ∷ [] ++ e ∷ [])) (In (closureBefore σ (p ++ e ∷ [])))
+      more = before-least σ _ (before-closed σ (p ++ e ∷ [])) (p ++ d ∷ [] ++ e ∷ []) (λ x m.
+          ⊎-elim
+          (λ n f. before-later p d e inside h k q (predecessor σ x) (before-contains σ (p ++ d ∷ []) sub-in x n f))
+          (λ n f. before-contains σ (p ++ e ∷ []) inside x (Memᴰ·append-right p n) f)
+          (List·Memᴰ·append-cases (p ++ d ∷ []) m))

@@ -11,11 +11,12 @@ use lib.ListN.{length, getD, take, set, replicate, length-set}
 use lib.Seq.{getD-set-same, take-suc-set}
 use Rattle.model.specs.Lists.{from, hasBit}
 use Rattle.model.specs.Trace.{Trace, tasks, locks, task, object, isAcquire}
-use Rattle.model.specs.Relations.{predecessor, held}
+use Rattle.model.specs.Relations.{held}
 use Rattle.model.specs.Pattern.{largestPattern}
 use Rattle.model.specs.Listing.{deadlocks}
 use Rattle.laws.specs.Chain.{signature, start}
-use Rattle.laws.specs.Frontier.{raised, Advanced}
+use Rattle.laws.specs.Frontier.{Before}
+use Rattle.chain.specs.Attempted.{Reusable}
 use Rattle.laws.specs.Walk.{each, upTo, beginning, Returning}
 use Rattle.entries.specs.declared.Found.{Found}
 use Rattle.entries.specs.Taken.{Taken, Adds, Roomy}
@@ -28,7 +29,7 @@ use Rattle.laws.proofs.Filters.{each-append, each-next}
 use Rattle.laws.proofs.Firsts.{each-first, each-none-first}
 use Rattle.laws.proofs.Tests.{is-true, decided}
 use Rattle.laws.proofs.WellFormed.{WellFormed}
-use Rattle.laws.proofs.Before.{before-start, before-extend}
+use Rattle.laws.proofs.Before.{before-start}
 use Rattle.laws.proofs.Extensions.{beginning-acquire, beginning-none, beginning-unheld, deadlocks-beginning}
 use Rattle.laws.proofs.Returning.{start-rooted}
 use Rattle.chain.proofs.Laws.{path-more}
@@ -52,19 +53,27 @@ module _ (σ : Trace) (path : List ℕ) (a : ℕ) (long : length path ≡ larges
       at = getD-set-same path 0 a 0 (omega (arith, long))
 
   -- It is open.
-  pub begin-open : WellFormed σ → (largest : ℕ) (empty none front latest : List ℕ) → 1 ≤ a → a ≤ length σ
-      → T (isAcquire σ a) → largest ≤ largestPattern → 2 ≤ largest → empty ≡ replicate tasks 0
-      → none ≡ replicate locks 0 → Advanced σ (raised empty (task σ a) (predecessor σ a)) front latest
+  pub begin-open : (largest : ℕ) (front latest : List ℕ) → 1 ≤ a → a ≤ length σ → T (isAcquire σ a)
+      → largest ≤ largestPattern → 2 ≤ largest → Before σ (a ∷ []) front latest
       → Open σ (set path 0 a) 1 (largest - 1) (bitOr 0 (2 ^ (task σ a))) (held σ a) front latest
-  begin-open ok largest empty none front latest h k t most least p q z = record {
+  begin-open largest front latest h k t most least z = record {
     long = length-set path 0 a ∙ long;
     some = omega arith;
     sized = omega arith;
     events = rw one (path-more σ [] a tt h k);
     acquires = rw (getD-set-same path 0 a 0 (omega (arith, long))) t;
     rooted = rw begin-chain (start-rooted σ a);
-    before = rw one (before-extend σ ok [] empty none a front latest (before-start σ empty none p q) h k z);
+    before = rw one z;
   }
+
+-- The frontier of no events is that from which the first one's is reached.
+pub begin-reusable : (σ : Trace) → WellFormed σ → (a : ℕ) (empty none grown newest : List ℕ) → 1 ≤ a
+    → a ≤ length σ → empty ≡ replicate tasks 0 → none ≡ replicate locks 0
+    → Reusable σ [] tasks a empty none grown newest
+begin-reusable σ ok a empty none grown newest h k p q = record {
+  before = before-start σ empty none p q;
+  again = λ s. absurd (omega (arith, ok .task-lt a h k));
+}
 
 -- An acquire whose lock does not lead back begins nothing.
 pub beginning-nowhere : (σ : Trace) (a largest : ℕ) (back : List ℕ) → T (isAcquire σ a) → 2 ≤ largest

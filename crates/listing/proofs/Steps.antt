@@ -1,21 +1,24 @@
 -- One turn of the scan: the chain is still open, and what is asked where an event is attempted and followed.
 -- Assumes nothing.
-use Prim.Native.Nat.{ℕ, suc, _-_, _^_, _≤_}
+use Prim.Native.Nat.{ℕ, suc, _-_, _^_, _≤_, _<_}
 use mathlib.Core.Path.{_≡_, refl, sym, ap, subst, _∙_}
-use mathlib.Core.Logic.{_≢_}
+use mathlib.Core.Logic.{⊎-elim, _≢_}
 use mathlib.Core.Bool.{true, false, cond}
-use mathlib.Core.List.{List}
+use mathlib.Core.List.{List, [], _∷_, _++_}
 use native.Mathlib.Omega.{arith}
 use lib.Dec.{T, eqb}
 use lib.Bits.{bitOr}
+use borrow.Author.Tests.{eq-eqb, ne-eqb}
 use lib.ListN.{length, getD, take}
 use Rattle.model.specs.Lists.{all}
-use Rattle.model.specs.Trace.{Trace, task, isEvent}
+use Rattle.model.specs.Trace.{Trace, tasks, task, isEvent}
 use Rattle.model.specs.Pattern.{largestPattern}
 use Rattle.laws.specs.Chain.{Chain, signature, fits}
 use Rattle.laws.specs.Frontier.{Before}
 use Rattle.laws.specs.Walk.{First, extensions, branch, Returning}
-use Rattle.chain.specs.Attempted.{Along, Attempted}
+use Rattle.laws.proofs.WellFormed.{WellFormed}
+use Rattle.laws.proofs.Tests.{equal?}
+use Rattle.chain.specs.Attempted.{Along, Reusable, Attempted}
 use Rattle.entries.specs.declared.Found.{Found}
 use Rattle.entries.specs.Taken.{Adds, Roomy}
 use Rattle.listing.specs.Open.{chainAt, Open, Descending}
@@ -68,7 +71,7 @@ module _ (σ : Trace) (path₀ : List ℕ) (len left tasks guards : ℕ) (front 
     follows = ap (λ (c : Chain). fits (signature σ) c e) same-chain
         ∙ scanning-fits σ (left - 1) (chainAt path₀ len tasks guards) room excluded e out₀ out f₀ f z d;
     deadlock = a .deadlock;
-    before = a .grows;
+    before = λ n. a .grows (λ q. absurd (omega arith));
     dropped = λ n. rw same-chain (a .dropped n (chainAt path₀ len tasks guards) still-along);
   }
 
@@ -109,3 +112,44 @@ pub step-end : (σ : Trace) (left : ℕ) (c : Chain) → c .first ≤ length σ 
 step-end σ left c inside h room excluded e out₀ out f₀ f z q =
     let s : left ≡ suc (left - 1) = omega arith in
     rw s (scanning-end σ (left - 1) c inside room excluded e out₀ out f₀ f z q)
+
+-- ---- the frontier that is kept
+
+-- Before event e, which is 0 at the end: where `of` is a task, the frontier is that of the events p and an earlier
+-- event of this task.
+pub record Kept (σ : Trace) (p : List ℕ) (of e : ℕ) (grown newest : List ℕ) : Type 0 where
+  pub again : e ≢ 0 → of < tasks
+      → (d : ℕ) × (1 ≤ d) × (d < e) × (task σ d ≡ of) × Before σ (p ++ d ∷ []) grown newest
+
+-- At first none is kept.
+pub kept-start : (σ : Trace) (p : List ℕ) (e : ℕ) (grown newest : List ℕ) → Kept σ p tasks e grown newest
+kept-start σ p e grown newest = record { again = λ d h. absurd (omega arith) }
+
+-- It may be extended to that of event e.
+pub kept-reusable : (σ : Trace) → WellFormed σ → (p : List ℕ) (of e : ℕ) (front latest grown newest : List ℕ)
+    → Kept σ p of e grown newest → 1 ≤ e → e ≤ length σ → Before σ p front latest
+    → Reusable σ p of e front latest grown newest
+kept-reusable σ ok p of e front latest grown newest z h k b = record {
+  before = b;
+  again = λ q.
+      let (d, low, less, own, before) = z .again (omega arith) (omega (arith, ok .task-lt e h k)) in
+      (d, low, less, own ∙ sym q, before);
+}
+
+-- The frontier of event e is kept, unless e was passed over before.
+pub kept-next : (σ : Trace) (k : ℕ) (p q : List ℕ) (first of e met : ℕ) (grown newest grown′ newest′ : List ℕ)
+    → q ≡ p → Kept σ p of e grown newest → 1 ≤ e → Attempted σ k q first e met grown′ newest′
+    → (met ≡ 3 → (grown′ ≡ grown) × (newest′ ≡ newest)) → (of′ x : ℕ)
+    → of′ ≡ cond (eqb met 3) of (task σ e) → (x ≢ 0 → e < x) → Kept σ p of′ x grown′ newest′
+kept-next σ k p q first of e met grown newest grown′ newest′ s z h a same of′ x r later = record {
+  again = λ d i. ⊎-elim
+      (λ (m : met ≡ 3).
+      let (g, n) = same m in
+      let u : of′ ≡ of = rw (eq-eqb met 3 m) at r in
+      let (c, low, less, own, before) = z .again (omega arith) (omega arith) in
+      (c, low, omega (arith, later d), own ∙ sym u, rw (g, n) before))
+      (λ (m : met ≢ 3).
+      let u : of′ ≡ task σ e = rw (ne-eqb met 3 m) at r in
+      (e, h, later d, sym u, rw (← s) (a .grows m)))
+      (equal? met 3);
+}

@@ -115,6 +115,7 @@ fn extend(
     let last = path[len - 1] as usize;
     let mut grown = [0u16; 16];
     let mut newest = [0u16; 64];
+    let mut of = 16;
     let mut excluded = tasks;
     let mut taken = found;
     let mut e = pruning::following(
@@ -140,9 +141,11 @@ fn extend(
             latest,
             &mut grown,
             &mut newest,
+            of,
             e,
         );
         excluded = chain::exclude(records, excluded, met, e);
+        of = chain::reused(records, of, met, e);
         taken = descend(
             records,
             holding,
@@ -211,6 +214,7 @@ fn begin(
         &none,
         &mut front,
         &mut latest,
+        16,
         a,
     );
     extend(

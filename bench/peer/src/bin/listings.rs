@@ -60,11 +60,11 @@ fn main() {
                 Ok(l) => format!("{} patterns", l.patterns),
                 Err(x) => format!("refused {}", x.number),
             };
-            let calls = batch(|| drop(black_box(listing(black_box(&rec), size, &mut a))));
+            let calls = batch(|| { let _ = black_box(listing(black_box(&rec), size, &mut a)); });
             let (mut x, mut y, mut r) = (Vec::new(), Vec::new(), Vec::new());
             for _ in 0..9 {
-                let theirs = time(calls, || drop(black_box(listing(black_box(&rec), size, &mut a))));
-                let mine = time(calls, || drop(black_box(ours(black_box(&rec), size, &mut b))));
+                let theirs = time(calls, || { let _ = black_box(listing(black_box(&rec), size, &mut a)); });
+                let mine = time(calls, || { black_box(ours(black_box(&rec), size, &mut b)); });
                 x.push(theirs);
                 y.push(mine);
                 r.push(mine / theirs);

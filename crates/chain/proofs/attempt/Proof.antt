@@ -1,37 +1,26 @@
 -- `chain::attempt` meets its contract: the laws say so of each outcome. Assumes nothing.
-use Prim.Native.Nat.{_≤_}
-use mathlib.Core.Path.{sym, ap, _∙_}
+use mathlib.Core.Path.{refl, sym, ap, _∙_}
 use mathlib.Core.List.{[], _∷_, _++_}
 use native.Mathlib.Omega.{arith}
 use borrow.Author.Needs.{needs}
-use lib.ListN.{length, getD, take}
+use lib.ListN.{getD, take}
 use Rattle.model.specs.Lists.{hasBit}
-use Rattle.model.specs.Trace.{isAcquire}
 use Rattle.model.specs.Recording.{decodeAll}
 use Rattle.laws.specs.Frontier.{Before}
-use Rattle.laws.proofs.Tests.{or-l, not-true, not-false}
-use Rattle.laws.proofs.Trace.{decodeAll-length}
+use Rattle.laws.proofs.Tests.{not-true, not-false}
+use Rattle.laws.proofs.Trace.{record-event}
 use Rattle.laws.proofs.Questions.{events-sound}
-use Rattle.laws.proofs.WellFormed.{lock-lt}
-use Rattle.laws.proofs.Before.{before-extend}
+use Rattle.laws.proofs.WellFormed.{acquire-lt}
 use Rattle.chain.proofs.Laws.{attempted-nowhere, attempted-met, attempted-itself, attempted-deadlock}
 use Rattle.chain.proofs.attempt.Statement.{statement}
 use Rattle.chain.proofs.attempt.Tie as tie
-
--- Event e is in the trace.
-here : (c : tie.Start) → (1 ≤ c .args .e) × (c .args .e ≤ length (decodeAll (c .args .records .now)))
-here c = let size = decodeAll-length (c .args .records .now) in (c .pre .8, omega (arith, c .pre .9))
 
 -- The frontier that has grown is that of the longer path.
 grown : (c : tie.After-grow)
     → Before (decodeAll (c .before .before .before .before .before .before .before .before .before .before .before .before .before .args .records .now))
     (take (c .before .before .before .before .before .before .before .before .before .before .before .before .before .args .len) (c .before .before .before .before .before .before .before .before .before .before .before .before .before .args .path .now) ++ c .before .before .before .before .before .before .before .before .before .before .before .before .before .args .e ∷ [])
     (c .grow .last .1 .1 .1 .1 .1 .1 .0) (c .grow .last .1 .1 .1 .1 .1 .1 .1 .0)
-grown c =
-    let s = c .before .before .before .before .before .before .before .before .before .before .before .before .before in
-    before-extend (decodeAll (s .args .records .now)) (events-sound (s .args .records .now) (s .pre .1))
-    (take (s .args .len) (s .args .path .now)) (s .args .front .now) (s .args .latest .now) (s .args .e)
-    _ _ (s .pre .7) (here s .0) (here s .1) (c .grow .ensures)
+grown c = let s = c .before .before .before .before .before .before .before .before .before .before .before .before .before in c .grow .ensures _ (s .pre .5) (s .pre .7)
 
 mul-in-mask : tie.Need-mul-in-mask
 mul-in-mask c = search needs
@@ -48,49 +37,68 @@ cast-in-mask c = search needs
 in-mask-requires : tie.Need-in-mask-requires
 in-mask-requires c κs =
     let s = c .before .before .before .before .before .before .before .before in
-    rw (c .object .ensures .1) (lock-lt (decodeAll (s .args .records .now)) (events-sound
-    (s .args .records .now) (s .pre .1)) (s .args .e) (here s .0) (here s .1)
-    (or-l (isAcquire (decodeAll (s .args .records .now)) (s .args .e)) _ (s .pre .10)))
+    rw (c .object .ensures .1) (acquire-lt (decodeAll (s .args .records .now)) (events-sound
+    (s .args .records .now) (s .pre .1)) (s .args .e) (s .pre .10))
 
 returns : tie.Need-returns
 returns c =
-    let s = c .before .before .before .before .before .before .before .before .before .before in
-    attempted-nowhere (decodeAll (s .args .records .now)) (s .args .k) (take (s .args .len) (s .args .path .now))
-    (getD (s .args .path .now) 0 0) (s .args .e) (s .args .back .now) _ _ (s .pre .3)
-    (ap (hasBit (getD (s .args .back .now) (s .args .k) 0)) (sym (c .before .before .object .ensures .1))
-    ∙ sym (c .before .in-mask .ensures) ∙ not-true _ (c .if1 .taken))
+    let s = c .before .before .before .before .before .before .before .before .before .before in (
+      attempted-nowhere (decodeAll (s .args .records .now)) (s .args .k) (take (s .args .len) (s .args .path .now))
+          (getD (s .args .path .now) 0 0) (s .args .e) (s .args .back .now) _ _ (s .pre .3)
+          (ap (hasBit (getD (s .args .back .now) (s .args .k) 0)) (sym (c .before .before .object .ensures .1))
+          ∙ sym (c .before .in-mask .ensures) ∙ not-true _ (c .if1 .taken)),
+      (λ q. (refl, refl)),
+    )
 
 grow-requires : tie.Need-grow-requires
-grow-requires c κs = search needs
+grow-requires c κs =
+    let s = c .before .before .before .before .before .before .before .before .before .before .before .before in (
+      s .pre .0,
+      s .pre .1,
+      s .pre .2,
+      s .pre .7 .before .settled,
+      (λ q. s .pre .7 .again q .4 .settled),
+      s .pre .8,
+      s .pre .9,
+    )
 
 avoids-path-requires : tie.Need-avoids-path-requires
 avoids-path-requires c κs = search needs
 
 returns-2 : tie.Need-returns-2
 returns-2 c =
-    let s = c .before .before .before .before .before .before .before .before .before .before .before .before .before .before .before .before .before in
-    attempted-met (decodeAll (s .args .records .now)) (s .args .k) (take (s .args .len) (s .args .path .now))
-    (getD (s .args .path .now) 0 0) (s .args .e) _ _ (s .pre .5) (here s) (grown (c .before .before .before .before))
-    (sym (c .before .avoids-path .ensures) ∙ not-true _ (c .if2 .taken))
+    let s = c .before .before .before .before .before .before .before .before .before .before .before .before .before .before .before .before .before in (
+      attempted-met (decodeAll (s .args .records .now)) (s .args .k) (take (s .args .len) (s .args .path .now))
+          (getD (s .args .path .now) 0 0) (s .args .e) _ _ (s .pre .5) (record-event _ (s .args .e) (s .pre .8, s .pre .9))
+          (grown (c .before .before .before .before))
+          (sym (c .before .avoids-path .ensures) ∙ not-true _ (c .if2 .taken)),
+      (λ q. absurd (omega arith)),
+    )
 
 contains-requires : tie.Need-contains-requires
 contains-requires c κs = search needs
 
 returns-3 : tie.Need-returns-3
 returns-3 c =
-    let s = c .before .before .before .before .before .before .before .before .before .before .before .before .before .before .before .before .before .before .before .before .before in
-    attempted-itself (decodeAll (s .args .records .now)) (s .args .k) (take (s .args .len) (s .args .path .now))
-    (getD (s .args .path .now) 0 0) (s .args .e) _ _ (s .pre .5) (here s) (grown (c .before .before .before .before .before .before .before .before))
-    (sym (c .before .before .before .before .before .avoids-path .ensures) ∙ not-false _ (c .before .before .before .before .if2 .left))
-    (sym (c .before .contains .ensures) ∙ c .if3 .taken)
+    let s = c .before .before .before .before .before .before .before .before .before .before .before .before .before .before .before .before .before .before .before .before .before in (
+      attempted-itself (decodeAll (s .args .records .now)) (s .args .k) (take (s .args .len) (s .args .path .now))
+          (getD (s .args .path .now) 0 0) (s .args .e) _ _ (s .pre .5) (record-event _ (s .args .e) (s .pre .8, s .pre .9))
+          (grown (c .before .before .before .before .before .before .before .before))
+          (sym (c .before .before .before .before .before .avoids-path .ensures) ∙ not-false _ (c .before .before .before .before .if2 .left))
+          (sym (c .before .contains .ensures) ∙ c .if3 .taken),
+      (λ q. absurd (omega arith)),
+    )
 
 returns-4 : tie.Need-returns-4
 returns-4 c =
-    let s = c .before .before .before .before .before .before .before .before .before .before .before .before .before .before .before .before .before .before .before .before .before in
-    attempted-deadlock (decodeAll (s .args .records .now)) (s .args .k) (take (s .args .len) (s .args .path .now))
-    (getD (s .args .path .now) 0 0) (s .args .e) _ _ (s .pre .5) (here s) (grown (c .before .before .before .before .before .before .before .before))
-    (sym (c .before .before .before .before .before .avoids-path .ensures) ∙ not-false _ (c .before .before .before .before .if2 .left))
-    (sym (c .before .contains .ensures) ∙ c .if3 .left)
+    let s = c .before .before .before .before .before .before .before .before .before .before .before .before .before .before .before .before .before .before .before .before .before in (
+      attempted-deadlock (decodeAll (s .args .records .now)) (s .args .k) (take (s .args .len) (s .args .path .now))
+          (getD (s .args .path .now) 0 0) (s .args .e) _ _ (s .pre .5) (record-event _ (s .args .e) (s .pre .8, s .pre .9))
+          (grown (c .before .before .before .before .before .before .before .before))
+          (sym (c .before .before .before .before .before .avoids-path .ensures) ∙ not-false _ (c .before .before .before .before .if2 .left))
+          (sym (c .before .contains .ensures) ∙ c .if3 .left),
+      (λ q. absurd (omega arith)),
+    )
 
 pub attempt-spec : {M : Type 1} → statement M
 attempt-spec =

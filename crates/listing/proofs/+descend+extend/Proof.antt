@@ -9,6 +9,7 @@ use lib.Seq.{getD-set-other}
 use Rattle.model.specs.Recording.{decodeAll}
 use Rattle.model.specs.Pattern.{largestPattern}
 use Rattle.laws.proofs.Trace.{decodeAll-length}
+use Rattle.laws.proofs.Questions.{events-sound}
 use Rattle.laws.proofs.Firsts.{toVisit, toVisit-falls}
 use Rattle.chain.proofs.Laws.{path-event}
 use Rattle.entries.proofs.Laws.{adds-none}
@@ -16,7 +17,7 @@ use Rattle.listing.specs.Open.{chainAt}
 use Rattle.listing.proofs.Paths.{kept-less, path-kept, returning-fewer, follows-acquire}
 use Rattle.listing.proofs.Paths.{descend-dropped, descend-completes, descend-longer, descend-nothing}
 use Rattle.listing.proofs.Paths.{descend-open}
-use Rattle.listing.proofs.Steps.{still-events, still-before, still-returning}
+use Rattle.listing.proofs.Steps.{still-events, still-returning, Kept, kept-start, kept-reusable, kept-next}
 use Rattle.listing.proofs.Steps.{descending, step-over, step-next, step-end}
 use Rattle.listing.proofs.Scans.{passes, Scanning, passes-acquire, scanning-start}
 use borrow.Fn.Kinds.{In}
@@ -30,6 +31,7 @@ use Rattle.listing.proofs.+descend+extend.Lts-extend as extend-lts
 use Rattle.chain.proofs.attempt.Reads as attempt-reads
 use Rattle.chain.proofs.completes.Reads as completes-reads
 use Rattle.chain.proofs.exclude.Reads as exclude-reads
+use Rattle.chain.proofs.reused.Reads as reused-reads
 use Rattle.chain.proofs.with_task.Reads as with-task-reads
 use Rattle.entries.proofs.take_pattern.Reads as take-pattern-reads
 use Rattle.pruning.proofs.following.Reads as following-reads
@@ -59,7 +61,7 @@ abbrev descend-claims : ℕ → descend-lts.Claims
 descend-claims t = (completes-reads.Asked, completes-reads.Learnt, take-pattern-reads.Asked, take-pattern-reads.Learnt, with-task-reads.Asked, with-task-reads.Learnt, extend-below t, extend.Post)
 
 abbrev extend-claims : ℕ → extend-lts.Claims
-extend-claims t = (following-reads.Asked, following-reads.Learnt, attempt-reads.Asked, attempt-reads.Learnt, exclude-reads.Asked, exclude-reads.Learnt, descend-below t, descend.Post)
+extend-claims t = (following-reads.Asked, following-reads.Learnt, attempt-reads.Asked, attempt-reads.Learnt, exclude-reads.Asked, exclude-reads.Learnt, reused-reads.Asked, reused-reads.Learnt, descend-below t, descend.Post)
 
 descend-returns : (t : ℕ) → descend-lts.Need-returns (descend-claims t) (descend-at t) descend.Post
 descend-returns t c =
@@ -209,12 +211,13 @@ descend-returns-4 t c =
     )
 
 abbrev extend-Inv-loop : extend-lts.InvT-loop
-extend-Inv-loop records holding predecessors writers matches next back path₀ len left tasks guards front latest out₀ room last grown₀ newest₀ excluded₀ taken₀ e₀ path out grown newest excluded taken e =
+extend-Inv-loop records holding predecessors writers matches next back path₀ len left tasks guards front latest out₀ room last grown₀ newest₀ of₀ excluded₀ taken₀ e₀ path out grown newest of excluded taken e =
     (length path ≡ largestPattern) × (take len path ≡ take len path₀) × (length out ≡ length out₀)
     × Scanning (decodeAll records) (left - 1) (chainAt path₀ len tasks guards) room excluded e out₀ out taken₀ taken
+    × Kept (decodeAll records) (take len path₀) of e grown newest
 
 abbrev extend-μ-loop : extend-lts.MeasureT-loop
-extend-μ-loop records holding predecessors writers matches next back path₀ len left tasks guards front latest out₀ room last grown₀ newest₀ excluded₀ taken₀ e₀ path out grown newest excluded taken e =
+extend-μ-loop records holding predecessors writers matches next back path₀ len left tasks guards front latest out₀ room last grown₀ newest₀ of₀ excluded₀ taken₀ e₀ path out grown newest of excluded taken e =
     toVisit (length (decodeAll records)) e
 
 -- An event of the chain is one of the records.
@@ -279,6 +282,7 @@ extend-loop-holds t c =
       refl,
       scanning-start (decodeAll b) (a .left - 1) (chainAt (a .path .now) (a .len) (a .tasks) (a .guards)) (first-event t s)
           (a .room) _ (c .following .ensures) _ (a .found) (s .pre .1 .4) (s .pre .1 .5),
+      kept-start (decodeAll b) _ _ _ _,
     )
 
 extend-sub-attempt : (t : ℕ) → extend-lts.Need-sub-attempt (extend-claims t) (extend-at t) extend.Post extend-Inv-loop extend-μ-loop
@@ -303,8 +307,8 @@ extend-attempt-requires t c κs =
       still-events (decodeAll b) (a .path .now) (a .len) (a .left) (a .tasks) (a .guards) (a .front .now) (a .latest .now) o
           (l .path) (l .inv .0) (l .inv .1),
       omega (arith, o .sized, o .some),
-      still-before (decodeAll b) (a .path .now) (a .len) (a .left) (a .tasks) (a .guards) (a .front .now) (a .latest .now) o
-          (l .path) (l .inv .0) (l .inv .1),
+      rw (l .inv .1) (kept-reusable (decodeAll b) (events-sound b (s .pre .1 .0 .accepted)) (take (a .len) (a .path .now)) _
+          (l .e) (a .front .now) (a .latest .now) _ _ (l .inv .4) (omega (arith, e .0)) (e .1) (o .before)),
       omega (arith, e .0),
       omega (arith, e .1),
       passes-acquire (decodeAll b) (chainAt (a .path .now) (a .len) (a .tasks) (a .guards)) _ _ (e .2),
@@ -321,23 +325,31 @@ extend-exclude-requires t c κs =
     let e = l .inv .3 .event d in
     (omega (arith, e .0), omega (arith, e .1, decodeAll-length b))
 
+extend-reused-requires : (t : ℕ) → extend-lts.Need-reused-requires (extend-claims t) (extend-at t) extend.Post extend-Inv-loop extend-μ-loop
+extend-reused-requires t c κs =
+    let s = c .before .before .before .before .before .before .before .before .before .before .before .before .before .before .before .before .before .before .before in
+    let l = c .before .before .before .before .before .before .loop in
+    let d = c .before .before .before .before .before .loop-test .taken in
+    let e = l .inv .3 .event d in
+    (omega (arith, e .0), omega (arith, e .1, decodeAll-length (s .args .records .now)))
+
 extend-sub-descend : (t : ℕ) → extend-lts.Need-sub-descend (extend-claims t) (extend-at t) extend.Post extend-Inv-loop extend-μ-loop
-extend-sub-descend t c = omega (arith, c .before .before .before .before .before .before .before .before .before .before .before .before .before .before .before .before .before .before .before .before .pre .1 .2)
+extend-sub-descend t c = omega (arith, c .before .before .before .before .before .before .before .before .before .before .before .before .before .before .before .before .before .before .before .before .before .pre .1 .2)
 
 extend-descend-requires : (t : ℕ) → extend-lts.Need-descend-requires (extend-claims t) (extend-at t) extend.Post extend-Inv-loop extend-μ-loop
 extend-descend-requires t c κs =
-    let s = c .before .before .before .before .before .before .before .before .before .before .before .before .before .before .before .before .before .before .before .before .before .before .before in
+    let s = c .before .before .before .before .before .before .before .before .before .before .before .before .before .before .before .before .before .before .before .before .before .before .before .before in
     let a = s .args in
     let o = s .pre .1 .1 in
     let b = a .records .now in
-    let l = c .before .before .before .before .before .before .before .before .before .before .loop in
-    let d = c .before .before .before .before .before .before .before .before .before .loop-test .taken in (
+    let l = c .before .before .before .before .before .before .before .before .before .before .before .loop in
+    let d = c .before .before .before .before .before .before .before .before .before .before .loop-test .taken in (
       omega (arith, s .pre .0, s .pre .1 .2),
       (
         s .pre .1 .0,
         descending (decodeAll b) (a .path .now) (a .len) (a .left) (a .tasks) (a .guards) (a .front .now) (a .latest .now) o
             (l .path) (l .inv .0) (l .inv .1) (s .pre .1 .2) _ _ (l .e) _ _ _ _ _ _ _
-            (l .inv .3) d (c .before .before .before .before .before .attempt .ensures),
+            (l .inv .3) d (c .before .before .before .before .before .before .attempt .ensures .0),
         still-returning (decodeAll b) (a .path .now) (a .len) (a .left) (a .tasks) (a .guards) (a .front .now) (a .latest .now) o
             (l .path) (l .inv .0) (l .inv .1) (s .pre .1 .2) _ (s .pre .1 .3),
         l .inv .3 .roomy,
@@ -347,20 +359,20 @@ extend-descend-requires t c κs =
 
 extend-same-length : (t : ℕ) → extend-lts.Need-same-length (extend-claims t) (extend-at t) extend.Post extend-Inv-loop extend-μ-loop
 extend-same-length t c =
-    c .before .before .before .before .before .descend .kept .1 .1 .1 .1 .1 .1 .1 .0 ∙ c .before .before .before .before .before .before .before .before .before .before .before .before .before .before .before .before .loop .inv .0 ∙ sym (c .before .before .before .before .before .before .before .before .before .before .before .before .before .before .before .before .before .before .before .before .before .before .before .before .before .before .before .before .before .pre .1 .1 .long)
+    c .before .before .before .before .before .descend .kept .1 .1 .1 .1 .1 .1 .1 .0 ∙ c .before .before .before .before .before .before .before .before .before .before .before .before .before .before .before .before .before .loop .inv .0 ∙ sym (c .before .before .before .before .before .before .before .before .before .before .before .before .before .before .before .before .before .before .before .before .before .before .before .before .before .before .before .before .before .before .pre .1 .1 .long)
 
 extend-same-length-2 : (t : ℕ) → extend-lts.Need-same-length-2 (extend-claims t) (extend-at t) extend.Post extend-Inv-loop extend-μ-loop
 extend-same-length-2 t c =
-    c .before .before .before .before .before .descend .kept .1 .1 .1 .1 .1 .1 .1 .1 .1 .1 .1 .1 .1 .1 .0 ∙ c .before .before .before .before .before .before .before .before .before .before .before .before .before .before .before .before .loop .inv .2
+    c .before .before .before .before .before .descend .kept .1 .1 .1 .1 .1 .1 .1 .1 .1 .1 .1 .1 .1 .1 .0 ∙ c .before .before .before .before .before .before .before .before .before .before .before .before .before .before .before .before .before .loop .inv .2
 
 extend-returns : (t : ℕ) → extend-lts.Need-returns (extend-claims t) (extend-at t) extend.Post extend-Inv-loop extend-μ-loop
 extend-returns t c =
-    let s = c .before .before .before .before .before .before .before .before .before .before .before .before .before .before .before .before .before .before .before .before .before .before .before .before .before .before .before .before .before in
+    let s = c .before .before .before .before .before .before .before .before .before .before .before .before .before .before .before .before .before .before .before .before .before .before .before .before .before .before .before .before .before .before in
     let a = s .args in
     let o = s .pre .1 .1 in
     let b = a .records .now in
-    let l = c .before .before .before .before .before .before .before .before .before .before .before .before .before .before .before .before .loop in
-    let d = c .before .before .before .before .before .before .before .before .before .before .before .before .before .before .before .loop-test .taken in
+    let l = c .before .before .before .before .before .before .before .before .before .before .before .before .before .before .before .before .before .loop in
+    let d = c .before .before .before .before .before .before .before .before .before .before .before .before .before .before .before .before .loop-test .taken in
     let done = c .before .before .before .before .before .descend .ensures in (
       done .0,
       done .1 ∙ l .inv .1,
@@ -371,12 +383,12 @@ extend-returns t c =
 
 extend-following-requires-2 : (t : ℕ) → extend-lts.Need-following-requires-2 (extend-claims t) (extend-at t) extend.Post extend-Inv-loop extend-μ-loop
 extend-following-requires-2 t c κs =
-    let s = c .before .before .before .before .before .before .before .before .before .before .before .before .before .before .before .before .before .before .before .before .before .before .before .before .before .before .before .before .before in
+    let s = c .before .before .before .before .before .before .before .before .before .before .before .before .before .before .before .before .before .before .before .before .before .before .before .before .before .before .before .before .before .before in
     let a = s .args in
     let o = s .pre .1 .1 in
     let b = a .records .now in
-    let l = c .before .before .before .before .before .before .before .before .before .before .before .before .before .before .before .before .loop in
-    let d = c .before .before .before .before .before .before .before .before .before .before .before .before .before .before .before .loop-test .taken in
+    let l = c .before .before .before .before .before .before .before .before .before .before .before .before .before .before .before .before .before .loop in
+    let d = c .before .before .before .before .before .before .before .before .before .before .before .before .before .before .before .before .loop-test .taken in
     let last = chain-event t s (a .len - 1) (omega (arith, o .some)) in
     let size = decodeAll-length b in (
       last .0,
@@ -391,29 +403,32 @@ extend-following-requires-2 t c κs =
 
 extend-loop-less : (t : ℕ) → extend-lts.Need-loop-less (extend-claims t) (extend-at t) extend.Post extend-Inv-loop extend-μ-loop
 extend-loop-less t c =
-    let s = c .before .before .before .before .before .before .before .before .before .before .before .before .before .before .before .before .before .before .before .before .before .before .before .before .before .before .before .before .before .before in
+    let s = c .before .before .before .before .before .before .before .before .before .before .before .before .before .before .before .before .before .before .before .before .before .before .before .before .before .before .before .before .before .before .before in
     let a = s .args in
     let o = s .pre .1 .1 in
     let b = a .records .now in
-    let l = c .before .before .before .before .before .before .before .before .before .before .before .before .before .before .before .before .before .loop in
-    let d = c .before .before .before .before .before .before .before .before .before .before .before .before .before .before .before .before .loop-test .taken in
+    let l = c .before .before .before .before .before .before .before .before .before .before .before .before .before .before .before .before .before .before .loop in
+    let d = c .before .before .before .before .before .before .before .before .before .before .before .before .before .before .before .before .before .loop-test .taken in
     toVisit-falls (passes (decodeAll b) (chainAt (a .path .now) (a .len) (a .tasks) (a .guards)) _) _ (l .e) _ (c .following2 .ensures) d (l .inv .3 .event d .1)
 
 extend-loop-again : (t : ℕ) → extend-lts.Need-loop-again (extend-claims t) (extend-at t) extend.Post extend-Inv-loop extend-μ-loop
 extend-loop-again t c =
-    let s = c .before .before .before .before .before .before .before .before .before .before .before .before .before .before .before .before .before .before .before .before .before .before .before .before .before .before .before .before .before .before in
+    let s = c .before .before .before .before .before .before .before .before .before .before .before .before .before .before .before .before .before .before .before .before .before .before .before .before .before .before .before .before .before .before .before in
     let a = s .args in
     let o = s .pre .1 .1 in
     let b = a .records .now in
-    let l = c .before .before .before .before .before .before .before .before .before .before .before .before .before .before .before .before .before .loop in
-    let d = c .before .before .before .before .before .before .before .before .before .before .before .before .before .before .before .before .loop-test .taken in
+    let l = c .before .before .before .before .before .before .before .before .before .before .before .before .before .before .before .before .before .before .loop in
+    let d = c .before .before .before .before .before .before .before .before .before .before .before .before .before .before .before .before .before .loop-test .taken in
     let done = c .before .before .before .before .before .before .descend .ensures in (
       c .before .before .before .before .before .before .descend .kept .1 .1 .1 .1 .1 .1 .1 .0 ∙ l .inv .0,
       done .1 ∙ l .inv .1,
       c .before .before .before .before .before .before .descend .kept .1 .1 .1 .1 .1 .1 .1 .1 .1 .1 .1 .1 .1 .1 .0 ∙ l .inv .2,
       step-next (decodeAll b) (a .path .now) (a .len) (a .left) (a .tasks) (a .guards) (a .front .now) (a .latest .now) o
           (l .path) (l .inv .0) (l .inv .1) (s .pre .1 .2) (first-event t s) (a .room) _ (l .e) _ _ _ _ _ _ (l .inv .3) d (done .2) _ _ _
-          (c .before .before .before .before .before .before .before .before .before .before .before .before .attempt .ensures) _ _ (c .before .before .before .before .before .before .before .before .before .before .before .exclude .ensures) (c .following2 .ensures) (done .0) (c .before .if1 .left),
+          (c .before .before .before .before .before .before .before .before .before .before .before .before .before .attempt .ensures .0) _ _ (c .before .before .before .before .before .before .before .before .before .before .before .before .exclude .ensures) (c .following2 .ensures) (done .0) (c .before .if1 .left),
+      kept-next (decodeAll b) _ (take (a .len) (a .path .now)) _ _ _ (l .e) _ _ _ _ _ (l .inv .1) (l .inv .4) (omega (arith, l .inv .3 .event d .0))
+          (c .before .before .before .before .before .before .before .before .before .before .before .before .before .attempt .ensures .0) (c .before .before .before .before .before .before .before .before .before .before .before .before .before .attempt .ensures .1) _ _ (c .before .before .before .before .before .before .before .before .before .before .before .reused .ensures)
+          (λ i. c .following2 .ensures .passes i .0),
     )
 
 extend-same-length-3 : (t : ℕ) → extend-lts.Need-same-length-3 (extend-claims t) (extend-at t) extend.Post extend-Inv-loop extend-μ-loop
@@ -475,6 +490,7 @@ pub +descend+extend-spec : {M : Type 1} → statement M
     (extend-sub-attempt t)
     (extend-attempt-requires t)
     (extend-exclude-requires t)
+    (extend-reused-requires t)
     (extend-sub-descend t)
     (extend-descend-requires t)
     (extend-same-length t)

@@ -1,5 +1,6 @@
 -- `listing::begin` meets its contract: the chain of one event is open. Assumes nothing.
 use mathlib.Core.Path.{refl, _∙_}
+use mathlib.Core.List.{[]}
 use native.Mathlib.Omega.{arith}
 use borrow.Author.Needs.{needs}
 use lib.ListN.{length-set}
@@ -7,9 +8,8 @@ use lib.Seq.{getD-set-same}
 use Rattle.model.specs.Recording.{decodeAll}
 use Rattle.laws.proofs.Trace.{record-event}
 use Rattle.laws.proofs.Questions.{events-sound}
-use Rattle.laws.proofs.Before.{before-start}
 use Rattle.listing.proofs.Paths.{returning-fewer}
-use Rattle.listing.proofs.Beginnings.{begin-chain, begin-open}
+use Rattle.listing.proofs.Beginnings.{begin-chain, begin-open, begin-reusable}
 use Rattle.listing.proofs.begin.Statement.{statement}
 use Rattle.listing.proofs.begin.Tie as tie
 
@@ -23,11 +23,14 @@ grow-requires : tie.Need-grow-requires
 grow-requires c κs =
     let s = c .before .before .before .before .before .before .before .before .before .before .before .before .before in
     let b = s .args .records .now in
-    let event = record-event b (s .args .a) (s .pre .1, s .pre .2) in (
+    let event = record-event b (s .args .a) (s .pre .1, s .pre .2) in
+    let reusable = begin-reusable (decodeAll b) (events-sound b (s .pre .0 .accepted)) (s .args .a) _ _ _ _
+    (event .0) (event .1) refl refl in (
       s .pre .0 .short,
       s .pre .0 .accepted,
       s .pre .0 .needed,
-      before-start (decodeAll b) _ _ refl refl .settled,
+      reusable .before .settled,
+      (λ q. reusable .again q .4 .settled),
       s .pre .1,
       s .pre .2,
     )
@@ -49,11 +52,12 @@ extend-requires c κs =
     let s = c .before .before .before .before .before .before .before .before .before .before .before .before .before .before .before .before .before .before .before .before in
     let b = s .args .records .now in
     let event = record-event b (s .args .a) (s .pre .1, s .pre .2) in
-    let same = s .pre .0 .holds .at (s .args .a) (event .0) (event .1) in (
+    let same = s .pre .0 .holds .at (s .args .a) (event .0) (event .1) in
+    let before = c .before .before .before .before .before .before .grow .ensures [] tt (begin-reusable (decodeAll b) (events-sound b (s .pre .0 .accepted))
+    (s .args .a) _ _ _ _ (event .0) (event .1) refl refl) in (
       s .pre .0,
       rw (c .before .before .before .before .with-task .ensures, same) (begin-open (decodeAll b) (s .args .path .now) (s .args .a) (s .pre .6)
-          (events-sound b (s .pre .0 .accepted)) (s .args .largest) _ _ _ _ (event .0) (event .1) (s .pre .3) (s .pre .5) (s .pre .4)
-          refl refl (c .before .before .before .before .before .before .grow .ensures)),
+          (s .args .largest) _ _ (event .0) (event .1) (s .pre .3) (s .pre .5) (s .pre .4) before),
       omega (arith, s .pre .4),
       rw (getD-set-same (s .args .path .now) 0 (s .args .a) 0 (omega (arith, s .pre .6))) (returning-fewer (decodeAll b) _ _ _ (s .args .back .now)
           (omega arith) (s .pre .7)),
