@@ -43,13 +43,18 @@ each-none-first p g n e x z k h = each-none g (from (suc e) (upTo n x - suc e)) 
 abbrev pub toVisit : ℕ → ℕ → ℕ
 toVisit n e = cond (eqb e 0) 0 (n + 1 - e)
 
--- The walk goes on, so it ends.
-pub toVisit-falls : (p : ℕ → Bool) (n e x : ℕ) → First p n e x → e ≢ 0 → e ≤ n → toVisit n x < toVisit n e
-toVisit-falls p n e x k d h =
+-- The walk goes on from e or after it, so it ends.
+pub toVisit-later : (p : ℕ → Bool) (n e end x : ℕ) → First p n end x → e ≢ 0 → e ≤ n → e ≤ end
+    → toVisit n x < toVisit n e
+toVisit-later p n e end x k d h l =
     rw (ne-eqb e 0 d)
     (⊎-elim
     (λ (z : x ≡ 0). rw (eq-eqb x 0 z) (omega arith))
     (λ (z : x ≢ 0). rw (ne-eqb x 0 z) (omega (arith, k .passes z .0, k .passes z .1))) (equal? x 0))
+
+-- From e itself.
+pub toVisit-falls : (p : ℕ → Bool) (n e x : ℕ) → First p n e x → e ≢ 0 → e ≤ n → toVisit n x < toVisit n e
+toVisit-falls p n e x k d h = toVisit-later p n e e x k d h (omega arith)
 
 -- ---- a stronger test
 
@@ -73,15 +78,20 @@ module _ (p q : ℕ → Bool) (weaker : (f : ℕ) → q f ≡ false → p f ≡ 
     failed = skipped e x z;
   }
 
+  -- The next one after a place up to which none passes.
+  pub tried-skip : (x end y : ℕ) → Tried p n e x → x ≢ 0 → x ≤ end
+      → ((f : ℕ) → x ≤ f → f ≤ end → p f ≡ false) → First q n end y → Tried p n e y
+  tried-skip x end y t d h miss z = record {
+    event = λ i. (omega (arith, t .event d, z .passes i), z .passes i .1);
+    failed = λ f g k. ⊎-elim
+        (λ (l : f ≤ end). ⊎-elim (λ (s : x ≤ f). miss f s l)
+        (λ (s : f < x). t .failed f g (rw (ne-eqb x 0 d) s)) (at-most? x f))
+        (λ (l : end < f). skipped end y z f l k) (at-most? f end);
+  }
+
   -- The next one, where that does not pass.
   pub tried-next : (x y : ℕ) → Tried p n e x → x ≢ 0 → p x ≡ false → First q n x y → Tried p n e y
-  tried-next x y t d miss z = record {
-    event = λ i. (omega (arith, t .event d, z .passes i), z .passes i .1);
-    failed = λ f h k. ⊎-elim
-        (λ (l : f ≤ x). ⊎-elim (λ (s : f ≡ x). rw s miss)
-        (λ (s : f ≢ x). t .failed f h (rw (ne-eqb x 0 d) (omega arith))) (equal? f x))
-        (λ (l : x < f). skipped x y z f l k) (at-most? f x);
-  }
+  tried-next x y t d miss = tried-skip x x y t d (omega arith) (λ f g h. let s : f ≡ x = omega arith in rw s miss)
 
 -- One that passes is the first.
 pub tried-found : (p : ℕ → Bool) (n e x : ℕ) → Tried p n e x → x ≢ 0 → p x ≡ true → First p n e x

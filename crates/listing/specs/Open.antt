@@ -16,15 +16,16 @@ use Rattle.laws.specs.Frontier.{Before}
 use Rattle.laws.specs.Walk.{branch, Rooted}
 use Rattle.frontier.specs.Visit.{Needed}
 use Rattle.deadlock.specs.Judged.{Holding}
-use Rattle.pruning.specs.Linked.{Linked}
+use Rattle.pruning.specs.Linked.{Linked, Marked}
 
 -- Records of accepted events, and the tables of them.
-pub record Ready (b holding predecessors writers matches next : List ℕ) : Type 0 where
+pub record Ready (b holding predecessors writers matches next blocks : List ℕ) : Type 0 where
   pub short : length b ≤ 8190
   pub accepted : checkEvents (decodeAll b) .refusal ≡ 0
   pub holds : Holding (decodeAll b) holding
   pub needed : Needed (decodeAll b) predecessors writers matches
   pub linked : Linked (decodeAll b) next
+  pub marked : Marked (decodeAll b) blocks
 
 -- The chain of the first `len` events of a path, with these tasks and held locks.
 abbrev pub chainAt : List ℕ → ℕ → ℕ → ℕ → Chain

@@ -30,6 +30,7 @@ fn descend(
     writers: &[u16],
     matches: &[u16],
     next: &[u16],
+    blocks: &[u64],
     back: &[u64],
     path: &mut [u16],
     len: usize,
@@ -45,6 +46,7 @@ fn descend(
     met: u64,
 ) -> Found
     requires { ⌜ Ready (now records) (now holding) (now predecessors) (now writers) (now matches) (now next)
+        (now blocks)
         × Descending (decodeAll (now records)) (now path) len k tasks guards e met (now front) (now latest)
         × Returning (decodeAll (now records)) (getD (now path) 0 0) (suc k) (now back)
         × Roomy room found × (found .full ≡ false) ⌝ }
@@ -69,6 +71,7 @@ fn descend(
         writers,
         matches,
         next,
+        blocks,
         back,
         path,
         len + 1,
@@ -92,6 +95,7 @@ fn extend(
     writers: &[u16],
     matches: &[u16],
     next: &[u16],
+    blocks: &[u64],
     back: &[u64],
     path: &mut [u16],
     len: usize,
@@ -105,6 +109,7 @@ fn extend(
     found: Found,
 ) -> Found
     requires { ⌜ Ready (now records) (now holding) (now predecessors) (now writers) (now matches) (now next)
+        (now blocks)
         × Open (decodeAll (now records)) (now path) len left tasks guards (now front) (now latest)
         × (1 ≤ left) × Returning (decodeAll (now records)) (getD (now path) 0 0) left (now back)
         × Roomy room found × (found .full ≡ false) ⌝ }
@@ -122,6 +127,7 @@ fn extend(
         records,
         holding,
         next,
+        blocks,
         last,
         excluded,
         guards,
@@ -153,6 +159,7 @@ fn extend(
             writers,
             matches,
             next,
+            blocks,
             back,
             path,
             len,
@@ -170,7 +177,7 @@ fn extend(
         if taken.full {
             return taken;
         }
-        e = pruning::following(records, holding, next, last, excluded, guards, e);
+        e = pruning::following(records, holding, next, blocks, last, excluded, guards, e);
     }
     taken
 }
@@ -183,6 +190,7 @@ fn begin(
     writers: &[u16],
     matches: &[u16],
     next: &[u16],
+    blocks: &[u64],
     back: &[u64],
     path: &mut [u16],
     a: usize,
@@ -192,6 +200,7 @@ fn begin(
     found: Found,
 ) -> Found
     requires { ⌜ Ready (now records) (now holding) (now predecessors) (now writers) (now matches) (now next)
+        (now blocks)
         × (1 ≤ a) × (2 * a ≤ length (now records)) × T (isAcquire (decodeAll (now records)) a)
         × (2 ≤ largest) × (largest ≤ largestPattern) × (length (now path) ≡ largestPattern)
         × Returning (decodeAll (now records)) a largest (now back) × Roomy room found × (found .full ≡ false) ⌝ }
@@ -224,6 +233,7 @@ fn begin(
         writers,
         matches,
         next,
+        blocks,
         back,
         path,
         1,
@@ -247,6 +257,7 @@ fn search_first(
     writers: &[u16],
     matches: &[u16],
     next: &[u16],
+    blocks: &[u64],
     lead: &[u64],
     path: &mut [u16],
     a: usize,
@@ -256,6 +267,7 @@ fn search_first(
     found: Found,
 ) -> Found
     requires { ⌜ Ready (now records) (now holding) (now predecessors) (now writers) (now matches) (now next)
+        (now blocks)
         × Leading (decodeAll (now records)) 0 16 0 (now lead)
         × (1 ≤ a) × (2 * a ≤ length (now records)) × T (isAcquire (decodeAll (now records)) a)
         × (2 ≤ largest) × (largest ≤ largestPattern) × (length (now path) ≡ largestPattern)
@@ -287,6 +299,7 @@ fn search_first(
         writers,
         matches,
         next,
+        blocks,
         &back,
         path,
         a,
@@ -306,11 +319,13 @@ fn search(
     writers: &[u16],
     matches: &[u16],
     next: &[u16],
+    blocks: &[u64],
     largest: usize,
     out: &mut [u8],
     room: usize,
 ) -> Found
     requires { ⌜ Ready (now records) (now holding) (now predecessors) (now writers) (now matches) (now next)
+        (now blocks)
         × (2 ≤ largest) × (largest ≤ largestPattern) ⌝ }
     ensures { λ r. ⌜ Roomy room r × Taken room (deadlocks (decodeAll (now (records .entry))) largest)
         (now (out .entry)) (now (out .exit)) r ⌝ }
@@ -332,6 +347,7 @@ fn search(
             writers,
             matches,
             next,
+            blocks,
             &lead,
             &mut path,
             a,
@@ -369,10 +385,12 @@ fn deliver(
     writers: &[u16],
     matches: &[u16],
     next: &[u16],
+    blocks: &[u64],
     largest: usize,
     out: &mut [u8],
 ) -> Found
     requires { ⌜ Ready (now records) (now holding) (now predecessors) (now writers) (now matches) (now next)
+        (now blocks)
         × (2 ≤ largest) × (largest ≤ largestPattern) ⌝ }
     ensures { λ r. ⌜ Delivered (deadlocks (decodeAll (now (records .entry))) largest) (now (out .entry))
         (now (out .exit)) r ⌝ }
@@ -385,6 +403,7 @@ fn deliver(
         writers,
         matches,
         next,
+        blocks,
         largest,
         &mut buffer,
         out.len(),
@@ -404,6 +423,7 @@ fn deliver(
         writers,
         matches,
         next,
+        blocks,
         largest,
         out,
         out.len(),
@@ -436,6 +456,8 @@ fn list_records(records: &[u8], largest: usize, out: &mut [u8]) -> Found
     );
     let mut next = [0u16; 4096];
     pruning::link_nested(records, &holding, &mut next);
+    let mut blocks = [0u64; 64];
+    pruning::mark_blocks(records, &holding, &next, &mut blocks);
     deliver(
         records,
         &holding,
@@ -443,6 +465,7 @@ fn list_records(records: &[u8], largest: usize, out: &mut [u8]) -> Found
         &writers,
         &matches,
         &next,
+        &blocks,
         largest,
         out,
     )

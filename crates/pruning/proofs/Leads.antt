@@ -8,14 +8,13 @@ use native.Mathlib.Omega.{arith}
 use lib.Dec.{T, eqb}
 use lib.Bits.{bitAnd, bitOr}
 use lib.ListN.{length, getD, set, length-set}
-use lib.Seq.{getD-set-same, getD-set-other}
 use Rattle.model.specs.Trace.{Trace, locks, task, object, isAcquire}
 use Rattle.model.specs.Relations.{held}
 use Rattle.laws.specs.Walk.{Covers, Leading}
 use Rattle.laws.proofs.Tests.{equal?, at-most?}
 use Rattle.pruning.specs.Linked.{isNested, Link, Led}
 use Rattle.pruning.proofs.Links.{acquire-free}
-use Rattle.pruning.proofs.Spreads.{covers-left, covers-right, covers-none}
+use Rattle.pruning.proofs.Spreads.{covers-none, covers-kept, covers-put}
 
 -- ---- noting an acquire
 
@@ -42,11 +41,7 @@ module _ (σ : Trace) (a t guards : ℕ) where
     led-more l m b = record { long = length-set lead l _ ∙ z .long; leads = leads }
       where
         more : (o : ℕ) → Covers (getD lead o 0) (getD (set lead l (bitOr (getD lead l 0) m)) o 0)
-        more o i s =
-            ⊎-elim
-            (λ (q : o ≡ l). rw (q, getD-set-same lead l (bitOr (getD lead l 0) m) 0 (omega (arith, z .long)))
-            (covers-left (getD lead l 0) m i (rw q at s)))
-            (λ (q : o ≢ l). rw (getD-set-other lead l o (bitOr (getD lead l 0) m) 0 q) s) (equal? o l)
+        more = covers-kept lead l m (omega (arith, z .long))
 
         leads : (f : ℕ) → a < f → f < e → T (isAcquire σ f) → task σ f ≢ t
             → T (eqb (bitAnd guards (held σ f)) 0)
@@ -60,9 +55,7 @@ module _ (σ : Trace) (a t guards : ℕ) where
       led-next (set lead l (bitOr (getD lead l 0) m)) e (led-more lead e z l m b) (λ d n. new)
     where
       new : Covers (held σ e) (getD (set lead l (bitOr (getD lead l 0) m)) (object σ e) 0)
-      new i s =
-          rw (← q, getD-set-same lead l (bitOr (getD lead l 0) m) 0 (omega (arith, z .long)))
-          (covers-right (getD lead l 0) m i (rw (← r) at s))
+      new i s = rw (← q) (covers-put lead l m (omega (arith, z .long)) i (rw (← r) at s))
 
 -- ---- along the links
 

@@ -3,3 +3,4 @@
 pub mod Links
 pub mod Spreads
 pub mod Leads
+pub mod Blocks

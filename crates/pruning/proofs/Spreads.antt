@@ -29,6 +29,21 @@ covers-right a b l t = rw (hasBit-or a b l) (or-r (hasBit a l) _ t)
 pub covers-none : (a b : ℕ) → a ≡ 0 → Covers a b
 covers-none a b z l t = absurd (rw (z, hasBit-none l) at t)
 
+-- A table keeps its locks where more are put into an entry,
+pub covers-kept : (table : List ℕ) (l m : ℕ) → l < length table → (o : ℕ)
+    → Covers (getD table o 0) (getD (set table l (bitOr (getD table l 0) m)) o 0)
+covers-kept table l m h o i s =
+    ⊎-elim
+    (λ (q : o ≡ l). rw (q, getD-set-same table l (bitOr (getD table l 0) m) 0 h)
+    (covers-left (getD table l 0) m i (rw q at s)))
+    (λ (q : o ≢ l). rw (getD-set-other table l o (bitOr (getD table l 0) m) 0 q) s) (equal? o l)
+
+-- and has these there.
+pub covers-put : (table : List ℕ) (l m : ℕ) → l < length table
+    → Covers m (getD (set table l (bitOr (getD table l 0) m)) l 0)
+covers-put table l m h i s =
+    rw (getD-set-same table l (bitOr (getD table l 0) m) 0 h) (covers-right (getD table l 0) m i s)
+
 -- ---- widened masks
 
 -- The locks that lead to those of the mask below m are in the widened one.

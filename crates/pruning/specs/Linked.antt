@@ -1,6 +1,6 @@
 -- The acquires that can stand in a pattern, as links from each event to the next of them, and the table of
 -- locks that lead to each other on the way to being filled.
-use Prim.Native.Nat.{ℕ, _≤_, _<_}
+use Prim.Native.Nat.{ℕ, _/_, _≤_, _<_}
 use mathlib.Core.Path.{_≡_}
 use mathlib.Core.Logic.{_≢_}
 use mathlib.Core.Bool.{Bool, false, not, _&&_}
@@ -8,6 +8,7 @@ use mathlib.Core.List.{List}
 use lib.Dec.{T, eqb}
 use lib.Bits.{bitAnd}
 use lib.ListN.{length, getD}
+use Rattle.model.specs.Lists.{hasBit}
 use Rattle.model.specs.Trace.{Trace, locks, task, object, isAcquire}
 use Rattle.model.specs.Relations.{held}
 use Rattle.laws.specs.Walk.{First, Covers}
@@ -24,6 +25,15 @@ Link σ e x = First (isNested σ) (length σ) e x
 pub record Linked (σ : Trace) (next : List ℕ) : Type 0 where
   pub long : length next ≡ 4096
   pub link : (e : ℕ) → e ≤ length σ → Link σ e (getD next e 0)
+
+-- For each 64 events in turn, the locks held at their acquires. The table may have more.
+pub record Marked (σ : Trace) (blocks : List ℕ) : Type 0 where
+  pub long : length blocks ≡ 64
+  pub marks : (e : ℕ) → e ≤ length σ → T (isNested σ e) → Covers (held σ e) (getD blocks (e / 64) 0)
+
+-- A nested acquire, in a block where some acquire holds lock l.
+abbrev pub isNear : Trace → List ℕ → ℕ → ℕ → Bool
+isNear σ blocks l e = isNested σ e && hasBit (getD blocks (e / 64) 0) l
 
 -- As `Leading` of laws, for the acquires before event `stop`.
 pub record Led (σ : Trace) (a stop t guards : ℕ) (lead : List ℕ) : Type 0 where

@@ -14,7 +14,7 @@ ghost use Rattle.model.specs.Calls.Check.{checkEvents};
 ghost use Rattle.laws.specs.Chain.{signature, fits, chainOf};
 ghost use Rattle.laws.specs.Walk.{First, Covers, Leading, Spread, Returning};
 ghost use Rattle.deadlock.specs.Judged.{Holding};
-ghost use Rattle.pruning.specs.Linked.{isNested, Linked, Led};
+ghost use Rattle.pruning.specs.Linked.{isNested, Linked, Marked, isNear, Led};
 
 // Event e where it is a nested acquire, and otherwise `later`.
 fn nested_or(records: &[u8], holding: &[u64], e: usize, later: u16) -> u16
@@ -47,12 +47,49 @@ pub fn link_nested(records: &[u8], holding: &[u64], next: &mut [u16])
     next[0] = top;
 }
 
+// Marks for each 64 events in turn the locks that are held at their acquires.
+pub fn mark_blocks(records: &[u8], holding: &[u64], next: &[u16], blocks: &mut [u64])
+    requires { ⌜ (length (now records) ≤ 8190) × Holding (decodeAll (now records)) (now holding)
+        × Linked (decodeAll (now records)) (now next) × (length (now blocks) ≡ 64) ⌝ }
+    ensures { λ r. ⌜ Marked (decodeAll (now (records .entry))) (now (blocks .exit)) ⌝ }
+{
+    let mut e = next[0] as usize;
+    while e != 0 {
+        let b = e / 64;
+        blocks[b] = blocks[b] | holding[e];
+        e = next[e] as usize;
+    }
+}
+
+// The first nested acquire after e in a block where some acquire holds lock l, or 0: other blocks are passed
+// over.
+fn hop(records: &[u8], next: &[u16], blocks: &[u64], l: u64, e: usize) -> usize
+    requires { ⌜ (l < 64) × (2 * e ≤ length (now records)) × (length (now records) ≤ 8190)
+        × Linked (decodeAll (now records)) (now next) × (length (now blocks) ≡ 64) ⌝ }
+    ensures { λ r. ⌜ First (isNear (decodeAll (now (records .entry))) (now (blocks .entry)) l)
+        (length (decodeAll (now (records .entry)))) e r ⌝ }
+{
+    let mut x = next[e] as usize;
+    while x != 0 {
+        if deadlock::in_mask(blocks[x / 64], l) {
+            return x;
+        }
+        let end = x / 64 * 64 + 63;
+        if records.len() / 2 <= end {
+            return 0;
+        }
+        x = next[end] as usize;
+    }
+    0
+}
+
 // The first event after e that may follow a chain that ends with the acquire `last`, of these tasks and with
 // these held locks, or 0.
 pub fn following(
     records: &[u8],
     holding: &[u64],
     next: &[u16],
+    blocks: &[u64],
     last: usize,
     tasks: u64,
     guards: u64,
@@ -61,16 +98,17 @@ pub fn following(
     requires { ⌜ (1 ≤ last) × (2 * last ≤ length (now records)) × (2 * e ≤ length (now records))
         × (length (now records) ≤ 8190) × (checkEvents (decodeAll (now records)) .refusal ≡ 0)
         × Holding (decodeAll (now records)) (now holding) × Linked (decodeAll (now records)) (now next)
-        × T (isAcquire (decodeAll (now records)) last) ⌝ }
+        × Marked (decodeAll (now records)) (now blocks) × T (isAcquire (decodeAll (now records)) last) ⌝ }
     ensures { λ r. ⌜ First (fits (signature (decodeAll (now (records .entry)))) (chainOf 0 last tasks guards))
         (length (decodeAll (now (records .entry)))) e r ⌝ }
 {
-    let mut x = next[e] as usize;
+    let l = recording::object(records, last) as u64;
+    let mut x = hop(records, next, blocks, l, e);
     while x != 0 {
         if deadlock::follows(records, holding, last, tasks, guards, x) {
             return x;
         }
-        x = next[x] as usize;
+        x = hop(records, next, blocks, l, x);
     }
     0
 }

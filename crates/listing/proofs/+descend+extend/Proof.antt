@@ -38,23 +38,23 @@ use Rattle.pruning.proofs.following.Reads as following-reads
 use Rattle.listing.proofs.+descend+extend.{statement}
 use Rattle.listing.proofs.+descend+extend.Tie.{close}
 
-abbrev μ-descend : Measures 11 descend-kinds.ps ℕ
-μ-descend κs a = 2 * a .1 .1 .1 .1 .1 .1 .1 .1 .1 .0 + 1
+abbrev μ-descend : Measures 12 descend-kinds.ps ℕ
+μ-descend κs a = 2 * a .1 .1 .1 .1 .1 .1 .1 .1 .1 .1 .0 + 1
 
-abbrev μ-extend : Measures 11 extend-kinds.ps ℕ
-μ-extend κs a = 2 * a .1 .1 .1 .1 .1 .1 .1 .1 .1 .0
+abbrev μ-extend : Measures 12 extend-kinds.ps ℕ
+μ-extend κs a = 2 * a .1 .1 .1 .1 .1 .1 .1 .1 .1 .1 .0
 
-abbrev descend-at : ℕ → In 11 descend-kinds.ps
-descend-at t = and 11 descend-kinds.ps (is 11 descend-kinds.ps μ-descend t) descend.Pre
+abbrev descend-at : ℕ → In 12 descend-kinds.ps
+descend-at t = and 12 descend-kinds.ps (is 12 descend-kinds.ps μ-descend t) descend.Pre
 
-abbrev descend-below : ℕ → In 11 descend-kinds.ps
-descend-below t = and 11 descend-kinds.ps (falls 11 descend-kinds.ps _<_ μ-descend t) descend.Pre
+abbrev descend-below : ℕ → In 12 descend-kinds.ps
+descend-below t = and 12 descend-kinds.ps (falls 12 descend-kinds.ps _<_ μ-descend t) descend.Pre
 
-abbrev extend-at : ℕ → In 11 extend-kinds.ps
-extend-at t = and 11 extend-kinds.ps (is 11 extend-kinds.ps μ-extend t) extend.Pre
+abbrev extend-at : ℕ → In 12 extend-kinds.ps
+extend-at t = and 12 extend-kinds.ps (is 12 extend-kinds.ps μ-extend t) extend.Pre
 
-abbrev extend-below : ℕ → In 11 extend-kinds.ps
-extend-below t = and 11 extend-kinds.ps (falls 11 extend-kinds.ps _<_ μ-extend t) extend.Pre
+abbrev extend-below : ℕ → In 12 extend-kinds.ps
+extend-below t = and 12 extend-kinds.ps (falls 12 extend-kinds.ps _<_ μ-extend t) extend.Pre
 
 -- What the functions that are called ask and ensure.
 abbrev descend-claims : ℕ → descend-lts.Claims
@@ -65,7 +65,7 @@ extend-claims t = (following-reads.Asked, following-reads.Learnt, attempt-reads.
 
 descend-returns : (t : ℕ) → descend-lts.Need-returns (descend-claims t) (descend-at t) descend.Post
 descend-returns t c =
-    let s = c .before .before .before .before .before .before .before .before .before .before in
+    let s = c .before .before .before .before .before .before .before .before .before .before .before in
     let a = s .args in
     let z = s .pre .1 .1 in (
       s .pre .1 .3,
@@ -76,7 +76,7 @@ descend-returns t c =
 
 descend-cast-path : (t : ℕ) → descend-lts.Need-cast-path (descend-claims t) (descend-at t) descend.Post
 descend-cast-path t c =
-    let s = c .before .before .before .before .before .before .before .before .before .before in
+    let s = c .before .before .before .before .before .before .before .before .before .before .before in
     let a = s .args in
     let z = s .pre .1 .1 in
     omega (arith, z .event, s .pre .1 .0 .short, decodeAll-length (a .records .now))
@@ -89,7 +89,7 @@ descend-slice-write-path t c = search needs
 
 descend-completes-requires : (t : ℕ) → descend-lts.Need-completes-requires (descend-claims t) (descend-at t) descend.Post
 descend-completes-requires t c κs =
-    let s = c .before .before .before .before .before .before .before .before .before .before in
+    let s = c .before .before .before .before .before .before .before .before .before .before .before in
     let a = s .args in
     let z = s .pre .1 .1 in
     let size = decodeAll-length (a .records .now) in (
@@ -106,7 +106,7 @@ descend-add-take-pattern t c = search needs
 
 descend-take-pattern-requires : (t : ℕ) → descend-lts.Need-take-pattern-requires (descend-claims t) (descend-at t) descend.Post
 descend-take-pattern-requires t c κs =
-    let s = c .before .before .before .before .before .before .before .before .before .before .before .before .before .before in
+    let s = c .before .before .before .before .before .before .before .before .before .before .before .before .before .before .before in
     let a = s .args in
     let z = s .pre .1 .1 in
     let long = length-set (a .path .now) (a .len) (a .e) in
@@ -120,7 +120,7 @@ descend-same-length-2 t c = search needs
 
 descend-returns-2 : (t : ℕ) → descend-lts.Need-returns-2 (descend-claims t) (descend-at t) descend.Post
 descend-returns-2 t c =
-    let s = c .before .before .before .before .before .before .before .before .before .before .before .before .before .before .before .before .before in
+    let s = c .before .before .before .before .before .before .before .before .before .before .before .before .before .before .before .before .before .before in
     let a = s .args in
     let z = s .pre .1 .1 in
     let done = c .before .before .take-pattern .ensures in (
@@ -135,7 +135,7 @@ descend-same-length-3 t c = search needs
 
 descend-returns-3 : (t : ℕ) → descend-lts.Need-returns-3 (descend-claims t) (descend-at t) descend.Post
 descend-returns-3 t c =
-    let s = c .before .before .before .before .before .before .before .before .before .before .before .before .before in
+    let s = c .before .before .before .before .before .before .before .before .before .before .before .before .before .before in
     let a = s .args in
     let z = s .pre .1 .1 in (
       s .pre .1 .3,
@@ -149,28 +149,28 @@ descend-add-extend t c = search needs
 
 descend-with-task-requires : (t : ℕ) → descend-lts.Need-with-task-requires (descend-claims t) (descend-at t) descend.Post
 descend-with-task-requires t c κs =
-    let s = c .before .before .before .before .before .before .before .before .before .before .before .before .before .before in
+    let s = c .before .before .before .before .before .before .before .before .before .before .before .before .before .before .before in
     let a = s .args in
     let z = s .pre .1 .1 in
     (z .event .0, omega (arith, z .event .1, decodeAll-length (a .records .now)))
 
 descend-mul-extend : (t : ℕ) → descend-lts.Need-mul-extend (descend-claims t) (descend-at t) descend.Post
 descend-mul-extend t c =
-    let s = c .before .before .before .before .before .before .before .before .before .before .before .before .before .before .before in
+    let s = c .before .before .before .before .before .before .before .before .before .before .before .before .before .before .before .before in
     let a = s .args in
     let z = s .pre .1 .1 in
     omega (arith, z .event, s .pre .1 .0 .short, decodeAll-length (a .records .now))
 
 descend-shared-slice-read-extend : (t : ℕ) → descend-lts.Need-shared-slice-read-extend (descend-claims t) (descend-at t) descend.Post
 descend-shared-slice-read-extend t c =
-    let s = c .before .before .before .before .before .before .before .before .before .before .before .before .before .before .before .before in
+    let s = c .before .before .before .before .before .before .before .before .before .before .before .before .before .before .before .before .before in
     let a = s .args in
     let z = s .pre .1 .1 in
     omega (arith, z .event, s .pre .1 .0 .short, s .pre .1 .0 .holds .long, decodeAll-length (a .records .now))
 
 descend-extend-requires : (t : ℕ) → descend-lts.Need-extend-requires (descend-claims t) (descend-at t) descend.Post
 descend-extend-requires t c κs =
-    let s = c .before .before .before .before .before .before .before .before .before .before .before .before .before .before .before .before .before in
+    let s = c .before .before .before .before .before .before .before .before .before .before .before .before .before .before .before .before .before .before in
     let a = s .args in
     let z = s .pre .1 .1 in
     let same = s .pre .1 .0 .holds .at (a .e) (z .event .0) (z .event .1) in (
@@ -188,15 +188,15 @@ descend-extend-requires t c κs =
     )
 
 descend-same-length-4 : (t : ℕ) → descend-lts.Need-same-length-4 (descend-claims t) (descend-at t) descend.Post
-descend-same-length-4 t c = c .before .before .before .before .extend .kept .1 .1 .1 .1 .1 .1 .1 .0
-    ∙ length-set (c .before .before .before .before .before .before .before .before .before .before .before .before .before .before .before .before .before .before .before .before .before .before .args .path .now) (c .before .before .before .before .before .before .before .before .before .before .before .before .before .before .before .before .before .before .before .before .before .before .args .len) (c .before .before .before .before .before .before .before .before .before .before .before .before .before .before .before .before .before .before .before .before .before .before .args .e)
+descend-same-length-4 t c = c .before .before .before .before .extend .kept .1 .1 .1 .1 .1 .1 .1 .1 .0
+    ∙ length-set (c .before .before .before .before .before .before .before .before .before .before .before .before .before .before .before .before .before .before .before .before .before .before .before .args .path .now) (c .before .before .before .before .before .before .before .before .before .before .before .before .before .before .before .before .before .before .before .before .before .before .before .args .len) (c .before .before .before .before .before .before .before .before .before .before .before .before .before .before .before .before .before .before .before .before .before .before .before .args .e)
 
 descend-same-length-5 : (t : ℕ) → descend-lts.Need-same-length-5 (descend-claims t) (descend-at t) descend.Post
 descend-same-length-5 t c = search needs
 
 descend-returns-4 : (t : ℕ) → descend-lts.Need-returns-4 (descend-claims t) (descend-at t) descend.Post
 descend-returns-4 t c =
-    let s = c .before .before .before .before .before .before .before .before .before .before .before .before .before .before .before .before .before .before .before .before .before .before in
+    let s = c .before .before .before .before .before .before .before .before .before .before .before .before .before .before .before .before .before .before .before .before .before .before .before in
     let a = s .args in
     let z = s .pre .1 .1 in
     let done = c .before .before .before .before .extend .ensures in (
@@ -211,13 +211,13 @@ descend-returns-4 t c =
     )
 
 abbrev extend-Inv-loop : extend-lts.InvT-loop
-extend-Inv-loop records holding predecessors writers matches next back path₀ len left tasks guards front latest out₀ room last grown₀ newest₀ of₀ excluded₀ taken₀ e₀ path out grown newest of excluded taken e =
+extend-Inv-loop records holding predecessors writers matches next blocks back path₀ len left tasks guards front latest out₀ room last grown₀ newest₀ of₀ excluded₀ taken₀ e₀ path out grown newest of excluded taken e =
     (length path ≡ largestPattern) × (take len path ≡ take len path₀) × (length out ≡ length out₀)
     × Scanning (decodeAll records) (left - 1) (chainAt path₀ len tasks guards) room excluded e out₀ out taken₀ taken
     × Kept (decodeAll records) (take len path₀) of e grown newest
 
 abbrev extend-μ-loop : extend-lts.MeasureT-loop
-extend-μ-loop records holding predecessors writers matches next back path₀ len left tasks guards front latest out₀ room last grown₀ newest₀ of₀ excluded₀ taken₀ e₀ path out grown newest of excluded taken e =
+extend-μ-loop records holding predecessors writers matches next blocks back path₀ len left tasks guards front latest out₀ room last grown₀ newest₀ of₀ excluded₀ taken₀ e₀ path out grown newest of excluded taken e =
     toVisit (length (decodeAll records)) e
 
 -- An event of the chain is one of the records.
@@ -245,7 +245,7 @@ extend-slice-read-last : (t : ℕ) → extend-lts.Need-slice-read-last (extend-c
 extend-slice-read-last t c = search needs
 
 extend-cast-last : (t : ℕ) → extend-lts.Need-cast-last (extend-claims t) (extend-at t) extend.Post extend-Inv-loop extend-μ-loop
-extend-cast-last t c = omega (arith, c .slice-known3 .given (c .before .before .before .before .before .before .before .before .before .before .args .len - 1))
+extend-cast-last t c = omega (arith, c .slice-known3 .given (c .before .before .before .before .before .before .before .before .before .before .before .args .len - 1))
 
 extend-slice-read-following : (t : ℕ) → extend-lts.Need-slice-read-following (extend-claims t) (extend-at t) extend.Post extend-Inv-loop extend-μ-loop
 extend-slice-read-following t c = search needs
@@ -255,7 +255,7 @@ extend-cast-following t c = omega (arith, c .slice-known4 .given 0)
 
 extend-following-requires : (t : ℕ) → extend-lts.Need-following-requires (extend-claims t) (extend-at t) extend.Post extend-Inv-loop extend-μ-loop
 extend-following-requires t c κs =
-    let s = c .before .before .before .before .before .before .before .before .before .before .before in
+    let s = c .before .before .before .before .before .before .before .before .before .before .before .before in
     let a = s .args in
     let o = s .pre .1 .1 in
     let b = a .records .now in
@@ -268,12 +268,13 @@ extend-following-requires t c κs =
       s .pre .1 .0 .accepted,
       s .pre .1 .0 .holds,
       s .pre .1 .0 .linked,
+      s .pre .1 .0 .marked,
       o .acquires,
     )
 
 extend-loop-holds : (t : ℕ) → extend-lts.Need-loop-holds (extend-claims t) (extend-at t) extend.Post extend-Inv-loop extend-μ-loop
 extend-loop-holds t c =
-    let s = c .before .before .before .before .before .before .before .before .before .before .before .before in
+    let s = c .before .before .before .before .before .before .before .before .before .before .before .before .before in
     let a = s .args in
     let o = s .pre .1 .1 in
     let b = a .records .now in (
@@ -290,7 +291,7 @@ extend-sub-attempt t c = search needs
 
 extend-attempt-requires : (t : ℕ) → extend-lts.Need-attempt-requires (extend-claims t) (extend-at t) extend.Post extend-Inv-loop extend-μ-loop
 extend-attempt-requires t c κs =
-    let s = c .before .before .before .before .before .before .before .before .before .before .before .before .before .before .before .before .before in
+    let s = c .before .before .before .before .before .before .before .before .before .before .before .before .before .before .before .before .before .before in
     let a = s .args in
     let o = s .pre .1 .1 in
     let b = a .records .now in
@@ -316,7 +317,7 @@ extend-attempt-requires t c κs =
 
 extend-exclude-requires : (t : ℕ) → extend-lts.Need-exclude-requires (extend-claims t) (extend-at t) extend.Post extend-Inv-loop extend-μ-loop
 extend-exclude-requires t c κs =
-    let s = c .before .before .before .before .before .before .before .before .before .before .before .before .before .before .before .before .before .before in
+    let s = c .before .before .before .before .before .before .before .before .before .before .before .before .before .before .before .before .before .before .before in
     let a = s .args in
     let o = s .pre .1 .1 in
     let b = a .records .now in
@@ -327,18 +328,18 @@ extend-exclude-requires t c κs =
 
 extend-reused-requires : (t : ℕ) → extend-lts.Need-reused-requires (extend-claims t) (extend-at t) extend.Post extend-Inv-loop extend-μ-loop
 extend-reused-requires t c κs =
-    let s = c .before .before .before .before .before .before .before .before .before .before .before .before .before .before .before .before .before .before .before in
+    let s = c .before .before .before .before .before .before .before .before .before .before .before .before .before .before .before .before .before .before .before .before in
     let l = c .before .before .before .before .before .before .loop in
     let d = c .before .before .before .before .before .loop-test .taken in
     let e = l .inv .3 .event d in
     (omega (arith, e .0), omega (arith, e .1, decodeAll-length (s .args .records .now)))
 
 extend-sub-descend : (t : ℕ) → extend-lts.Need-sub-descend (extend-claims t) (extend-at t) extend.Post extend-Inv-loop extend-μ-loop
-extend-sub-descend t c = omega (arith, c .before .before .before .before .before .before .before .before .before .before .before .before .before .before .before .before .before .before .before .before .before .pre .1 .2)
+extend-sub-descend t c = omega (arith, c .before .before .before .before .before .before .before .before .before .before .before .before .before .before .before .before .before .before .before .before .before .before .pre .1 .2)
 
 extend-descend-requires : (t : ℕ) → extend-lts.Need-descend-requires (extend-claims t) (extend-at t) extend.Post extend-Inv-loop extend-μ-loop
 extend-descend-requires t c κs =
-    let s = c .before .before .before .before .before .before .before .before .before .before .before .before .before .before .before .before .before .before .before .before .before .before .before .before in
+    let s = c .before .before .before .before .before .before .before .before .before .before .before .before .before .before .before .before .before .before .before .before .before .before .before .before .before in
     let a = s .args in
     let o = s .pre .1 .1 in
     let b = a .records .now in
@@ -359,15 +360,15 @@ extend-descend-requires t c κs =
 
 extend-same-length : (t : ℕ) → extend-lts.Need-same-length (extend-claims t) (extend-at t) extend.Post extend-Inv-loop extend-μ-loop
 extend-same-length t c =
-    c .before .before .before .before .before .descend .kept .1 .1 .1 .1 .1 .1 .1 .0 ∙ c .before .before .before .before .before .before .before .before .before .before .before .before .before .before .before .before .before .loop .inv .0 ∙ sym (c .before .before .before .before .before .before .before .before .before .before .before .before .before .before .before .before .before .before .before .before .before .before .before .before .before .before .before .before .before .before .pre .1 .1 .long)
+    c .before .before .before .before .before .descend .kept .1 .1 .1 .1 .1 .1 .1 .1 .0 ∙ c .before .before .before .before .before .before .before .before .before .before .before .before .before .before .before .before .before .loop .inv .0 ∙ sym (c .before .before .before .before .before .before .before .before .before .before .before .before .before .before .before .before .before .before .before .before .before .before .before .before .before .before .before .before .before .before .before .pre .1 .1 .long)
 
 extend-same-length-2 : (t : ℕ) → extend-lts.Need-same-length-2 (extend-claims t) (extend-at t) extend.Post extend-Inv-loop extend-μ-loop
 extend-same-length-2 t c =
-    c .before .before .before .before .before .descend .kept .1 .1 .1 .1 .1 .1 .1 .1 .1 .1 .1 .1 .1 .1 .0 ∙ c .before .before .before .before .before .before .before .before .before .before .before .before .before .before .before .before .before .loop .inv .2
+    c .before .before .before .before .before .descend .kept .1 .1 .1 .1 .1 .1 .1 .1 .1 .1 .1 .1 .1 .1 .1 .0 ∙ c .before .before .before .before .before .before .before .before .before .before .before .before .before .before .before .before .before .loop .inv .2
 
 extend-returns : (t : ℕ) → extend-lts.Need-returns (extend-claims t) (extend-at t) extend.Post extend-Inv-loop extend-μ-loop
 extend-returns t c =
-    let s = c .before .before .before .before .before .before .before .before .before .before .before .before .before .before .before .before .before .before .before .before .before .before .before .before .before .before .before .before .before .before in
+    let s = c .before .before .before .before .before .before .before .before .before .before .before .before .before .before .before .before .before .before .before .before .before .before .before .before .before .before .before .before .before .before .before in
     let a = s .args in
     let o = s .pre .1 .1 in
     let b = a .records .now in
@@ -383,7 +384,7 @@ extend-returns t c =
 
 extend-following-requires-2 : (t : ℕ) → extend-lts.Need-following-requires-2 (extend-claims t) (extend-at t) extend.Post extend-Inv-loop extend-μ-loop
 extend-following-requires-2 t c κs =
-    let s = c .before .before .before .before .before .before .before .before .before .before .before .before .before .before .before .before .before .before .before .before .before .before .before .before .before .before .before .before .before .before in
+    let s = c .before .before .before .before .before .before .before .before .before .before .before .before .before .before .before .before .before .before .before .before .before .before .before .before .before .before .before .before .before .before .before in
     let a = s .args in
     let o = s .pre .1 .1 in
     let b = a .records .now in
@@ -398,12 +399,13 @@ extend-following-requires-2 t c κs =
       s .pre .1 .0 .accepted,
       s .pre .1 .0 .holds,
       s .pre .1 .0 .linked,
+      s .pre .1 .0 .marked,
       o .acquires,
     )
 
 extend-loop-less : (t : ℕ) → extend-lts.Need-loop-less (extend-claims t) (extend-at t) extend.Post extend-Inv-loop extend-μ-loop
 extend-loop-less t c =
-    let s = c .before .before .before .before .before .before .before .before .before .before .before .before .before .before .before .before .before .before .before .before .before .before .before .before .before .before .before .before .before .before .before in
+    let s = c .before .before .before .before .before .before .before .before .before .before .before .before .before .before .before .before .before .before .before .before .before .before .before .before .before .before .before .before .before .before .before .before in
     let a = s .args in
     let o = s .pre .1 .1 in
     let b = a .records .now in
@@ -413,16 +415,16 @@ extend-loop-less t c =
 
 extend-loop-again : (t : ℕ) → extend-lts.Need-loop-again (extend-claims t) (extend-at t) extend.Post extend-Inv-loop extend-μ-loop
 extend-loop-again t c =
-    let s = c .before .before .before .before .before .before .before .before .before .before .before .before .before .before .before .before .before .before .before .before .before .before .before .before .before .before .before .before .before .before .before in
+    let s = c .before .before .before .before .before .before .before .before .before .before .before .before .before .before .before .before .before .before .before .before .before .before .before .before .before .before .before .before .before .before .before .before in
     let a = s .args in
     let o = s .pre .1 .1 in
     let b = a .records .now in
     let l = c .before .before .before .before .before .before .before .before .before .before .before .before .before .before .before .before .before .before .loop in
     let d = c .before .before .before .before .before .before .before .before .before .before .before .before .before .before .before .before .before .loop-test .taken in
     let done = c .before .before .before .before .before .before .descend .ensures in (
-      c .before .before .before .before .before .before .descend .kept .1 .1 .1 .1 .1 .1 .1 .0 ∙ l .inv .0,
+      c .before .before .before .before .before .before .descend .kept .1 .1 .1 .1 .1 .1 .1 .1 .0 ∙ l .inv .0,
       done .1 ∙ l .inv .1,
-      c .before .before .before .before .before .before .descend .kept .1 .1 .1 .1 .1 .1 .1 .1 .1 .1 .1 .1 .1 .1 .0 ∙ l .inv .2,
+      c .before .before .before .before .before .before .descend .kept .1 .1 .1 .1 .1 .1 .1 .1 .1 .1 .1 .1 .1 .1 .1 .0 ∙ l .inv .2,
       step-next (decodeAll b) (a .path .now) (a .len) (a .left) (a .tasks) (a .guards) (a .front .now) (a .latest .now) o
           (l .path) (l .inv .0) (l .inv .1) (s .pre .1 .2) (first-event t s) (a .room) _ (l .e) _ _ _ _ _ _ (l .inv .3) d (done .2) _ _ _
           (c .before .before .before .before .before .before .before .before .before .before .before .before .before .attempt .ensures .0) _ _ (c .before .before .before .before .before .before .before .before .before .before .before .before .exclude .ensures) (c .following2 .ensures) (done .0) (c .before .if1 .left),
@@ -439,7 +441,7 @@ extend-same-length-4 t c = c .before .loop .inv .2
 
 extend-returns-2 : (t : ℕ) → extend-lts.Need-returns-2 (extend-claims t) (extend-at t) extend.Post extend-Inv-loop extend-μ-loop
 extend-returns-2 t c =
-    let s = c .before .before .before .before .before .before .before .before .before .before .before .before .before .before in
+    let s = c .before .before .before .before .before .before .before .before .before .before .before .before .before .before .before in
     let a = s .args in
     let o = s .pre .1 .1 in
     let b = a .records .now in

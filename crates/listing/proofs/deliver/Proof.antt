@@ -17,7 +17,7 @@ search-requires c κs = search needs
 
 returns : tie.Need-returns
 returns c =
-    let s = c .before .before .before .before .before .before .before .before .before .before .before in
+    let s = c .before .before .before .before .before .before .before .before .before .before .before .before in
     let b = s .args .records .now in
     let ps = deadlocks (decodeAll b) (s .args .largest) in
     delivered-none ps (s .args .out .now) _ _ _ (c .before .before .search .ensures .1) (c .if1 .taken)
@@ -38,7 +38,7 @@ fits c = rw (length-replicate {A = ℕ} 65536 0) (c .before .before .before .bef
 
 returns-2 : tie.Need-returns-2
 returns-2 c =
-    let s = c .before .before .before .before .before .before .before .before .before .before .before .before .before .before .before .before .before in
+    let s = c .before .before .before .before .before .before .before .before .before .before .before .before .before .before .before .before .before .before in
     let b = s .args .records .now in
     let ps = deadlocks (decodeAll b) (s .args .largest) in
     let found = c .before .before .before .before .before .before .before .before .search .ensures in
@@ -52,7 +52,7 @@ same-length-2 c = search needs
 
 returns-3 : tie.Need-returns-3
 returns-3 c =
-    let s = c .before .before .before .before .before .before .before .before .before .before .before .before .before .before .before .before in
+    let s = c .before .before .before .before .before .before .before .before .before .before .before .before .before .before .before .before .before in
     let b = s .args .records .now in
     let ps = deadlocks (decodeAll b) (s .args .largest) in
     let found = c .before .before .before .before .before .before .before .search .ensures in

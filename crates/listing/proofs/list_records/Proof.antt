@@ -38,6 +38,18 @@ slice-aggregate-link-nested-2 c = search needs
 link-nested-requires : tie.Need-link-nested-requires
 link-nested-requires c κs = search needs
 
+slice-aggregate-mark-blocks : tie.Need-slice-aggregate-mark-blocks
+slice-aggregate-mark-blocks c = search needs
+
+slice-aggregate-mark-blocks-2 : tie.Need-slice-aggregate-mark-blocks-2
+slice-aggregate-mark-blocks-2 c = search needs
+
+slice-aggregate-mark-blocks-3 : tie.Need-slice-aggregate-mark-blocks-3
+slice-aggregate-mark-blocks-3 c = search needs
+
+mark-blocks-requires : tie.Need-mark-blocks-requires
+mark-blocks-requires c κs = search needs
+
 slice-aggregate-deliver : tie.Need-slice-aggregate-deliver
 slice-aggregate-deliver c = search needs
 
@@ -53,16 +65,20 @@ slice-aggregate-deliver-4 c = search needs
 slice-aggregate-deliver-5 : tie.Need-slice-aggregate-deliver-5
 slice-aggregate-deliver-5 c = search needs
 
+slice-aggregate-deliver-6 : tie.Need-slice-aggregate-deliver-6
+slice-aggregate-deliver-6 c = search needs
+
 deliver-requires : tie.Need-deliver-requires
 deliver-requires c κs =
-    let s = c .before .before .before .before .before .before .before .before .before .before .before .before .before .before .before .before .before .before .before .before .before .before .before .before .before .before .before in
-    let tables = c .before .before .before .before .before .before .before .before .before .before .before .before .before .before .before .before .before .fill-tables .ensures in (
+    let s = c .before .before .before .before .before .before .before .before .before .before .before .before .before .before .before .before .before .before .before .before .before .before .before .before .before .before .before .before .before .before .before .before .before in
+    let tables = c .before .before .before .before .before .before .before .before .before .before .before .before .before .before .before .before .before .before .before .before .before .before .before .fill-tables .ensures in (
       record {
         short = s .pre .0;
         accepted = s .pre .1;
         holds = tables-holding tables;
         needed = tables-needed tables;
-        linked = c .before .before .before .before .before .before .before .link-nested .ensures;
+        linked = c .before .before .before .before .before .before .before .before .before .before .before .before .before .link-nested .ensures;
+        marked = c .before .before .before .before .before .before .before .before .mark-blocks .ensures;
       },
       s .pre .2,
       s .pre .3,
@@ -89,11 +105,16 @@ list-records-spec =
     slice-aggregate-link-nested
     slice-aggregate-link-nested-2
     link-nested-requires
+    slice-aggregate-mark-blocks
+    slice-aggregate-mark-blocks-2
+    slice-aggregate-mark-blocks-3
+    mark-blocks-requires
     slice-aggregate-deliver
     slice-aggregate-deliver-2
     slice-aggregate-deliver-3
     slice-aggregate-deliver-4
     slice-aggregate-deliver-5
+    slice-aggregate-deliver-6
     deliver-requires
     same-length
     returns)

@@ -20,7 +20,7 @@ slice-aggregate-leads-back c = search needs
 
 leads-back-requires : tie.Need-leads-back-requires
 leads-back-requires c κs =
-    let s = c .before .before .before .before .before .before .before .before .before .before in
+    let s = c .before .before .before .before .before .before .before .before .before .before .before in
     let b = s .args .records .now in (
       s .pre .2,
       s .pre .3,
@@ -36,7 +36,7 @@ leads-back-requires c κs =
 
 returns : tie.Need-returns
 returns c =
-    let s = c .before .before .before .before .before .before .before .before .before .before .before .before .before in
+    let s = c .before .before .before .before .before .before .before .before .before .before .before .before .before .before in
     let b = s .args .records .now in
     let back = c .before .before .leads-back .ensures in (
       s .pre .8,
@@ -67,7 +67,7 @@ slice-aggregate-leads-back-3 c = search needs
 
 leads-back-requires-2 : tie.Need-leads-back-requires-2
 leads-back-requires-2 c κs =
-    let s = c .before .before .before .before .before .before .before .before .before .before .before .before .before .before .before .before .before .before .before .before in
+    let s = c .before .before .before .before .before .before .before .before .before .before .before .before .before .before .before .before .before .before .before .before .before in
     let b = s .args .records .now in
     let event = record-event b (s .args .a) (s .pre .2, s .pre .3) in (
       s .pre .2,
@@ -85,7 +85,7 @@ leads-back-requires-2 c κs =
 
 returns-2 : tie.Need-returns-2
 returns-2 c =
-    let s = c .before .before .before .before .before .before .before .before .before .before .before .before .before .before .before .before .before .before .before .before .before .before .before in
+    let s = c .before .before .before .before .before .before .before .before .before .before .before .before .before .before .before .before .before .before .before .before .before .before .before .before in
     let b = s .args .records .now in
     let back = c .before .before .leads-back2 .ensures in (
       s .pre .8,
@@ -98,7 +98,7 @@ slice-aggregate-begin c = search needs
 
 begin-requires : tie.Need-begin-requires
 begin-requires c κs =
-    let s = c .before .before .before .before .before .before .before .before .before .before .before .before .before .before .before .before .before .before .before .before .before .before .before .before .before .before in
+    let s = c .before .before .before .before .before .before .before .before .before .before .before .before .before .before .before .before .before .before .before .before .before .before .before .before .before .before .before in
     let b = s .args .records .now in (
       s .pre .0,
       s .pre .2,
@@ -120,7 +120,7 @@ same-length-2 c = search needs
 
 returns-3 : tie.Need-returns-3
 returns-3 c =
-    let s = c .before .before .before .before .before .before .before .before .before .before .before .before .before .before .before .before .before .before .before .before .before .before .before .before .before .before .before .before .before .before .before in
+    let s = c .before .before .before .before .before .before .before .before .before .before .before .before .before .before .before .before .before .before .before .before .before .before .before .before .before .before .before .before .before .before .before .before in
     let b = s .args .records .now in
     let done = c .before .before .before .before .begin .ensures in (
       done .0,
