@@ -1,0 +1,2 @@
+-- What contracts of this crate's functions cite.
+pub mod Text
