@@ -174,7 +174,8 @@ fn extend(
             e,
             met,
         );
-        if taken.full {
+        let full = taken.full;
+        if full {
             return taken;
         }
         e = pruning::following(records, holding, next, blocks, last, excluded, guards, e);
