@@ -124,7 +124,8 @@ module _ (σ : Trace) (k : ℕ) (p : List ℕ) (first e : ℕ) where
       }
 
       -- It has none of the events.
-      pub attempted-deadlock : leb e (getD grown (task σ e) 0) ≡ false → Attempted σ k p first e 0 grown newest
+      pub attempted-deadlock : leb e (getD grown (task σ e) 0) ≡ false → Attempted σ k p first e 0 grown
+          newest
       attempted-deadlock n = record {
         deadlock = λ q. rw (verdict, h, n);
         grows = λ d. z;

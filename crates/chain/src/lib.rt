@@ -41,7 +41,8 @@ fn renew(
     *newest = *latest;
 }
 
-// The frontier of the predecessors of some events and e: from that of the events, or where `of` is the task of e
+// The frontier of the predecessors of some events and e: from that of the events, or where `of` is the task
+// of e
 // from that of the events and an earlier one of this task.
 pub fn grow(
     records: &[u8],
@@ -100,7 +101,8 @@ fn avoids_path(records: &[u8], path: &[u16], len: usize, front: &[u16]) -> bool
 
 // Attempts the acquire e after the events of the path, with at most k more after it: 0 where they are a
 // deadlock so far, 1 where e leads nowhere, and 2 where the later events of its task do not either, each with
-// the frontier of the closure of their predecessors; and 3 where e leads nowhere and the frontier is as before.
+// the frontier of the closure of their predecessors; and 3 where e leads nowhere and the frontier is as
+// before.
 pub fn attempt(
     records: &[u8],
     predecessors: &[u16],
@@ -180,7 +182,8 @@ pub fn completes(records: &[u8], back: &[u64], e: usize) -> bool
     requires { ⌜ (1 ≤ e) × (2 * e ≤ length (now records))
         × (checkEvents (decodeAll (now records)) .refusal ≡ 0) × (length (now back) ≡ largestPattern)
         × T (isAcquire (decodeAll (now records)) e) ⌝ }
-    ensures { λ r. ⌜ r ≡ hasBit (getD (now (back .entry)) 0 0) (object (decodeAll (now (records .entry))) e) ⌝ }
+    ensures { λ r. ⌜ r ≡ hasBit (getD (now (back .entry)) 0 0) (object (decodeAll (now (records .entry))) e)
+        ⌝ }
 {
     deadlock::in_mask(back[0], recording::object(records, e) as u64)
 }

@@ -47,7 +47,8 @@ then-small o p s t = cond-elim Small (isAccepted o) p o (λ y. t) (λ n. s)
 fault-le : (σ : Trace) (e : ℕ) → fault σ e ≤ 7
 unfolding fault
 fault-le σ e =
-    number ((isAcquire σ e || isRelease σ e) && not (ltb (object σ e) locks)) (isAcquire σ e && not (isFree σ e))
+    number ((isAcquire σ e || isRelease σ e) && not (ltb (object σ e) locks)) (isAcquire σ e && not (isFree σ
+    e))
     (isRelease σ e && not (holds σ e (task σ e) (object σ e))) (isRead σ e && eqb (writer σ e) 0)
   where
     number : (a b c d : Bool) → cond a 4 (cond b 5 (cond c 6 (cond d 7 0))) ≤ 7

@@ -16,7 +16,8 @@ use Rattle.laws.proofs.Filters.{each-none, each-next}
 
 -- What the numbers from a on yield before e, and then to the first after e that passes a test: where those
 -- that do not pass yield nothing, what e yields is all.
-pub each-first {ℓ} : {A : Type ℓ} (p : ℕ → Bool) (g : ℕ → List A) (n a e x : ℕ) → First p n e x → a ≤ e → e ≤ n
+pub each-first {ℓ} : {A : Type ℓ} (p : ℕ → Bool) (g : ℕ → List A) (n a e x : ℕ) → First p n e x → a ≤ e → e ≤
+    n
     → ((f : ℕ) → e < f → f ≤ n → p f ≡ false → g f ≡ [])
     → each g (from a (upTo n x - a)) ≡ each g (from a (e - a)) ++ g e
 each-first p g n a e x z l k h =
@@ -91,7 +92,8 @@ module _ (p q : ℕ → Bool) (weaker : (f : ℕ) → q f ≡ false → p f ≡ 
 
   -- The next one, where that does not pass.
   pub tried-next : (x y : ℕ) → Tried p n e x → x ≢ 0 → p x ≡ false → First q n x y → Tried p n e y
-  tried-next x y t d miss = tried-skip x x y t d (omega arith) (λ f g h. let s : f ≡ x = omega arith in rw s miss)
+  tried-next x y t d miss = tried-skip x x y t d (omega arith) (λ f g h. let s : f ≡ x = omega arith in rw s
+      miss)
 
 -- One that passes is the first.
 pub tried-found : (p : ℕ → Bool) (n e x : ℕ) → Tried p n e x → x ≢ 0 → p x ≡ true → First p n e x

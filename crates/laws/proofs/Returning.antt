@@ -117,7 +117,8 @@ module _ (σ : Trace) where
           → hasBit (getD back i 0) (object σ (c .last)) ≡ false → extensions σ i c ≡ []
       nowhere zero l c q w h = extensions-zero σ c
       nowhere (suc i) l c q w h =
-          extensions-suc σ i c ∙ each-none (branch σ i c) (from (suc (c .first)) (length σ - c .first)) (λ e m.
+          extensions-suc σ i c ∙ each-none (branch σ i c) (from (suc (c .first)) (length σ - c .first)) (λ e
+          m.
           decided (fits (signature σ) c e)
           (λ f.
           let range = from-iff (suc (c .first)) (length σ - c .first) e .0 m in
@@ -126,7 +127,8 @@ module _ (σ : Trace) where
           (nowhere i (omega arith) (add (signature σ) c e) q (add-rooted c e w) out))
           (branch-unfit σ i c e))
         where
-          unclosed : (i : ℕ) → i < count → (l : ℕ) → hasBit (getD back i 0) l ≡ false → hasBit (held σ a) l ≡ false
+          unclosed : (i : ℕ) → i < count → (l : ℕ) → hasBit (getD back i 0) l ≡ false → hasBit (held σ a) l ≡
+              false
           unclosed i k l o =
               is-false (hasBit (held σ a) l) (not-T (hasBit (held σ a) l) (λ t.
               T-not (hasBit (getD back i 0) l) (rw o tt) (covers i k l t)))
@@ -149,7 +151,8 @@ module _ (σ : Trace) where
           new : x ≡ e → In (closureBefore σ (p ++ f ∷ [])) (predecessor σ x)
           new s =
               let own = predecessor-latest σ f in
-              let at-least : e ≤ predecessor σ f = own .latest e (omega arith) (sameTask-iff σ f e .1 (sym q)) in
+              let at-least : e ≤ predecessor σ f = own .latest e (omega arith) (sameTask-iff σ f e .1 (sym
+              q)) in
               let z : predecessor σ f ≢ 0 = omega arith in
               let d′ : predecessor σ e ≢ 0 = rw s at d in
               rw s (closed-earlier σ (In (closureBefore σ (p ++ f ∷ []))) (before-closed σ (p ++ f ∷ []))
@@ -164,7 +167,8 @@ module _ (σ : Trace) where
       → isDeadlock σ (p ++ f ∷ []) ≡ false
   not-deadlock-later p e f x inside l k q m h =
       is-false (isDeadlock σ (p ++ f ∷ [])) (not-T (isDeadlock σ (p ++ f ∷ [])) (λ t.
-      isDeadlock-iff σ (p ++ f ∷ []) .0 t x (Memᴰ·append-left (f ∷ []) m) (before-later p e f inside l k q x h)))
+      isDeadlock-iff σ (p ++ f ∷ []) .0 t x (Memᴰ·append-left (f ∷ []) m) (before-later p e f inside l k q x
+      h)))
 
   -- So the frontier before an earlier event of the task may be extended to that before a later one.
   pub before-again : WellFormed σ → (p front latest : List ℕ) (d e : ℕ) (front′ latest′ : List ℕ)
@@ -173,9 +177,11 @@ module _ (σ : Trace) where
       → Before σ (p ++ e ∷ []) front′ latest′
   before-again ok p front latest d e front′ latest′ z h k q inside a =
       let high = inside e (Memᴰ·append-right p (List·Memᴰ·head refl)) in
-      let both = before-extend σ ok (p ++ d ∷ []) front latest e front′ latest′ z (omega arith) high a in record {
+      let both = before-extend σ ok (p ++ d ∷ []) front latest e front′ latest′ z (omega arith) high a in
+      record {
         settled = both .settled;
-        members = λ x i j. T-ext (has (closureBefore σ (p ++ e ∷ [])) x) (has (closureBefore σ (p ++ d ∷ [] ++ e ∷ [])) x)
+        members = λ x i j. T-ext (has (closureBefore σ (p ++ e ∷ [])) x) (has (closureBefore σ (p ++ d ∷ []
+            ++ e ∷ [])) x)
             (fewer x) (more x) ∙ both .members x i j;
       }
     where
@@ -198,6 +204,7 @@ module _ (σ : Trace) where
       more : Within (closureBefore σ (p ++ d ∷ [] ++ e ∷ [])) (In (closureBefore σ (p ++ e ∷ [])))
       more = before-least σ _ (before-closed σ (p ++ e ∷ [])) (p ++ d ∷ [] ++ e ∷ []) (λ x m.
           ⊎-elim
-          (λ n f. before-later p d e inside h k q (predecessor σ x) (before-contains σ (p ++ d ∷ []) sub-in x n f))
+          (λ n f. before-later p d e inside h k q (predecessor σ x) (before-contains σ (p ++ d ∷ []) sub-in x
+          n f))
           (λ n f. before-contains σ (p ++ e ∷ []) inside x (Memᴰ·append-right p n) f)
           (List·Memᴰ·append-cases (p ++ d ∷ []) m))

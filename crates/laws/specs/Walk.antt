@@ -1,4 +1,5 @@
--- The depth-first search for deadlocks: chains that begin with the smallest event, extended by one later event
+-- The depth-first search for deadlocks: chains that begin with the smallest event, extended by one later
+-- event
 -- after the other. That it finds the listing is in proofs/Walk, Search and Listing.
 use Prim.Native.Nat.{ℕ, zero, suc, _-_, _≤_, _<_}
 use mathlib.Core.Path.{_≡_}
@@ -92,7 +93,8 @@ pub record Spread (lead : List ℕ) (count : ℕ) (back : List ℕ) : Type 0 whe
   pub leads : (i : ℕ) → suc i < count → (m : ℕ) → m < locks → T (hasBit (getD back i 0) m)
       → Covers (getD lead m 0) (getD back (suc i) 0)
 
--- Entry i has the locks from which a chain that begins with event a may be completed by i more events: a chain
+-- Entry i has the locks from which a chain that begins with event a may be completed by i more events: a
+-- chain
 -- whose last lock is not there leads nowhere. Entry 0 has the locks that complete it.
 pub record Returning (σ : Trace) (a count : ℕ) (back : List ℕ) : Type 0 where
   pub long : length back ≡ largestPattern

@@ -142,7 +142,12 @@ module _ (b : List ℕ) (k : ℕ) (out : List ℕ) where
         ⊎-elim
         (λ (p : permitsSize k ≡ outcome 8 0). absurd (d (rw p at q)))
         (λ (p : (permitsSize k ≡ outcome 0 0) × (2 ≤ largestSize k) × (largestSize k ≤ 16)).
-        let m-is : m ≡ largestSize k = rw (p .0) at q in (omega (arith, p .1), omega (arith, p .2), p .0, m-is))
+        let m-is : m ≡ largestSize k = rw (p .0) at q in (
+          omega (arith, p .1),
+          omega (arith, p .2),
+          p .0,
+          m-is,
+        ))
         (size-question k)
 
     module _ (m : ℕ) (p : permitsSize k ≡ outcome 0 0) (q : m ≡ largestSize k) (out′ : List ℕ) (f : Found)
@@ -162,7 +167,8 @@ module _ (b : List ℕ) (k : ℕ) (out : List ℕ) where
 
       -- The entries are counted and written.
       pub list-written : f .full ≡ false
-          → (record { refusal = 0; event = 0; patterns = f .patterns; bytes = f .bytes } ≡ list b k (length out))
+          → (record { refusal = 0; event = 0; patterns = f .patterns; bytes = f .bytes } ≡ list b k (length
+          out))
           × (out′ ≡ listOut b k out)
       unfolding list listOut listRefusal fitsOutput
       list-written n =

@@ -95,7 +95,8 @@ pub record Searching (σ : Trace) (k room a : ℕ) (out₀ out : List ℕ) (f : 
 -- An event that is not nested begins nothing.
 pub beginning-free : (σ : Trace) (k e : ℕ) → isNested σ e ≡ false → beginning σ k e ≡ []
 beginning-free σ k e n =
-    decided (isAcquire σ e) (λ y. beginning-unheld σ k e (acquire-free σ e (rw y tt) n)) (beginning-none σ k e)
+    decided (isAcquire σ e) (λ y. beginning-unheld σ k e (acquire-free σ e (rw y tt) n)) (beginning-none σ k
+    e)
 
 module _ (σ : Trace) (k room : ℕ) where
   -- At first nothing is taken.
@@ -139,7 +140,8 @@ module _ (σ : Trace) (k room : ℕ) where
             let q : a ≡ suc a - 1 = omega arith in
             let one-more : each (beginning σ k) (from 1 a) ≡ each (beginning σ k) (from 1 (a - 1))
             ++ beginning σ k a =
-            ap (λ (n : ℕ). each (beginning σ k) (from 1 n)) q ∙ each-next (beginning σ k) 1 a (suc a) (e .0) (omega arith) (λ x h i. absurd (omega arith)) in
+            ap (λ (n : ℕ). each (beginning σ k) (from 1 n)) q ∙ each-next (beginning σ k) 1 a (suc a) (e .0)
+            (omega arith) (λ x h i. absurd (omega arith)) in
             rw (
               from-split 1 a (length σ) (suc a) (e .1) (omega arith),
               each-append,

@@ -65,7 +65,8 @@ module _ (σ : Trace) (k : ℕ) (c : Chain) (inside : c .first ≤ length σ) (r
     passed = λ j g h i. branch-unfit σ k c g;
     roomy = r;
     unfilled = n;
-    adds = rw (each-none-first (passes σ c (c .tasks)) (branch σ k c) (length σ) (c .first) e z inside (λ g h i.
+    adds = rw (each-none-first (passes σ c (c .tasks)) (branch σ k c) (length σ) (c .first) e z inside (λ g h
+        i.
         branch-unfit σ k c g)) (adds-none room out f);
   }
 
@@ -73,7 +74,8 @@ module _ (σ : Trace) (k : ℕ) (c : Chain) (inside : c .first ≤ length σ) (r
       (z : Scanning σ k c room excluded e out₀ out f₀ f) (d : e ≢ 0)
       (a : Adds room (branch σ k c e) out out′ f f′) where
     -- What was taken with event e.
-    taken : Adds room (each (branch σ k c) (from (suc (c .first)) (e - suc (c .first))) ++ branch σ k c e) out₀
+    taken : Adds room (each (branch σ k c) (from (suc (c .first)) (e - suc (c .first))) ++ branch σ k c e)
+        out₀
         out′ f₀ f′
     taken = adds-trans room _ (branch σ k c e) out₀ out out′ f₀ f f′ (rw (ne-eqb e 0 d) at (z .adds)) a
 
@@ -93,7 +95,8 @@ module _ (σ : Trace) (k : ℕ) (c : Chain) (inside : c .first ≤ length σ) (r
               (omega arith) (omega arith),
           part,
           each-append,
-          each-next (branch σ k c) (suc (c .first)) e (suc e) low (omega arith) (λ x h i. absurd (omega arith)),
+          each-next (branch σ k c) (suc (c .first)) e (suc e) low (omega arith) (λ x h i. absurd (omega
+              arith)),
         )
 
     -- Where that exceeds the room, so does all.
@@ -139,7 +142,8 @@ module _ (σ : Trace) (k : ℕ) (c : Chain) (inside : c .first ≤ length σ) (r
 
   -- At the end.
   pub scanning-end : (excluded e : ℕ) (out₀ out : List ℕ) (f₀ f : Found)
-      → Scanning σ k c room excluded e out₀ out f₀ f → e ≡ 0 → Adds room (extensions σ (suc k) c) out₀ out f₀ f
+      → Scanning σ k c room excluded e out₀ out f₀ f → e ≡ 0 → Adds room (extensions σ (suc k) c) out₀ out f₀
+      f
   scanning-end excluded e out₀ out f₀ f z q =
       let size : length σ - c .first ≡ suc (length σ) - suc (c .first) = omega arith in
       rw (extensions-suc σ k c, size) (rw q at (z .adds))

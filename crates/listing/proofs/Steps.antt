@@ -27,7 +27,8 @@ use Rattle.listing.proofs.Scans.{passes, Scanning, scanning-fits, scann
 use Rattle.listing.proofs.Scans.{scanning-end}
 
 module _ (σ : Trace) (path₀ : List ℕ) (len left tasks guards : ℕ) (front latest : List ℕ)
-    (o : Open σ path₀ len left tasks guards front latest) (path : List ℕ) (long : length path ≡ largestPattern)
+    (o : Open σ path₀ len left tasks guards front latest) (path : List ℕ) (long : length path ≡
+    largestPattern)
     (kept : take len path ≡ take len path₀) where
   -- The chain of the path is the one that is extended.
   pub same-chain : chainAt path len tasks guards ≡ chainAt path₀ len tasks guards
@@ -76,17 +77,20 @@ module _ (σ : Trace) (path₀ : List ℕ) (len left tasks guards : ℕ) (front 
   }
 
   module _ (h : 1 ≤ left) (inside : getD path₀ 0 0 ≤ length σ) (room excluded e : ℕ) (out₀ out out′ : List ℕ)
-      (f₀ f f′ : Found) (z : Scanning σ (left - 1) (chainAt path₀ len tasks guards) room excluded e out₀ out f₀ f)
+      (f₀ f f′ : Found) (z : Scanning σ (left - 1) (chainAt path₀ len tasks guards) room excluded e out₀ out
+      f₀ f)
       (d : e ≢ 0) (a : Adds room (branch σ (left - 1) (chainAt path len tasks guards) e) out out′ f f′) where
     added : Adds room (branch σ (left - 1) (chainAt path₀ len tasks guards) e) out out′ f f′
     added = rw (← same-chain) a
 
     -- Where it exceeds the room, so does all.
-    pub step-over : f′ .full ≡ true → Adds room (extensions σ left (chainAt path₀ len tasks guards)) out₀ out′ f₀
+    pub step-over : f′ .full ≡ true → Adds room (extensions σ left (chainAt path₀ len tasks guards)) out₀
+        out′ f₀
         f′
     step-over y =
         let q : left ≡ suc (left - 1) = omega arith in
-        rw q (scanning-over σ (left - 1) (chainAt path₀ len tasks guards) inside room excluded e out₀ out out′ f₀ f
+        rw q (scanning-over σ (left - 1) (chainAt path₀ len tasks guards) inside room excluded e out₀ out
+        out′ f₀ f
         f′ z d added y)
 
     -- The scan goes on with the next event that passes.
@@ -97,7 +101,8 @@ module _ (σ : Trace) (path₀ : List ℕ) (len left tasks guards : ℕ) (front 
         → f′ .full ≡ false
         → Scanning σ (left - 1) (chainAt path₀ len tasks guards) room excluded′ x out₀ out′ f₀ f′
     step-next met grown newest t =
-        scanning-next σ (left - 1) (chainAt path₀ len tasks guards) inside room excluded e out₀ out out′ f₀ f f′ z
+        scanning-next σ (left - 1) (chainAt path₀ len tasks guards) inside room excluded e out₀ out out′ f₀ f
+        f′ z
         d added (take len path) met grown newest (record {
           events = sym kept;
           begins = refl;
@@ -115,7 +120,8 @@ step-end σ left c inside h room excluded e out₀ out f₀ f z q =
 
 -- ---- the frontier that is kept
 
--- Before event e, which is 0 at the end: where `of` is a task, the frontier is that of the events p and an earlier
+-- Before event e, which is 0 at the end: where `of` is a task, the frontier is that of the events p and an
+-- earlier
 -- event of this task.
 pub record Kept (σ : Trace) (p : List ℕ) (of e : ℕ) (grown newest : List ℕ) : Type 0 where
   pub again : e ≢ 0 → of < tasks

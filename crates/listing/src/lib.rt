@@ -51,7 +51,8 @@ fn descend(
         × Returning (decodeAll (now records)) (getD (now path) 0 0) (suc k) (now back)
         × Roomy room found × (found .full ≡ false) ⌝ }
     ensures { λ r. ⌜ Roomy room r × (take len (now (path .exit)) ≡ take len (now (path .entry)))
-        × Adds room (branch (decodeAll (now (records .entry))) k (chainAt (now (path .entry)) len tasks guards) e)
+        × Adds room (branch (decodeAll (now (records .entry))) k (chainAt (now (path .entry)) len tasks
+        guards) e)
         (now (out .entry)) (now (out .exit)) found r ⌝ }
 {
     if met != 0 {
@@ -114,7 +115,8 @@ fn extend(
         × (1 ≤ left) × Returning (decodeAll (now records)) (getD (now path) 0 0) left (now back)
         × Roomy room found × (found .full ≡ false) ⌝ }
     ensures { λ r. ⌜ Roomy room r × (take len (now (path .exit)) ≡ take len (now (path .entry)))
-        × Adds room (extensions (decodeAll (now (records .entry))) left (chainAt (now (path .entry)) len tasks guards))
+        × Adds room (extensions (decodeAll (now (records .entry))) left (chainAt (now (path .entry)) len
+        tasks guards))
         (now (out .entry)) (now (out .exit)) found r ⌝ }
 {
     let last = path[len - 1] as usize;
@@ -204,7 +206,8 @@ fn begin(
         (now blocks)
         × (1 ≤ a) × (2 * a ≤ length (now records)) × T (isAcquire (decodeAll (now records)) a)
         × (2 ≤ largest) × (largest ≤ largestPattern) × (length (now path) ≡ largestPattern)
-        × Returning (decodeAll (now records)) a largest (now back) × Roomy room found × (found .full ≡ false) ⌝ }
+        × Returning (decodeAll (now records)) a largest (now back) × Roomy room found × (found .full ≡ false)
+        ⌝ }
     ensures { λ r. ⌜ Roomy room r
         × Adds room (extensions (decodeAll (now (records .entry))) (largest - 1)
         (start (signature (decodeAll (now (records .entry)))) a))

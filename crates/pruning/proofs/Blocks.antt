@@ -47,7 +47,8 @@ module _ (σ : Trace) where
   }
 
   -- The block of event e is marked.
-  pub marking-next : (blocks : List ℕ) (e : ℕ) → Marking σ blocks e → e ≢ 0 → e / 64 < 64 → (m : ℕ) → m ≡ held σ e
+  pub marking-next : (blocks : List ℕ) (e : ℕ) → Marking σ blocks e → e ≢ 0 → e / 64 < 64 → (m : ℕ) → m ≡
+      held σ e
       → (x : ℕ) → Link σ e x → Marking σ (set blocks (e / 64) (bitOr (getD blocks (e / 64) 0) m)) x
   marking-next blocks e z d b m q x y = record {
     long = length-set blocks (e / 64) _ ∙ z .long;
@@ -91,7 +92,11 @@ module _ (σ : Trace) where
       pub hopping-found : hasBit (getD blocks (x / 64) 0) l ≡ true
           → First (isNear σ blocks l) (length σ) e x
       hopping-found y =
-          tried-found (isNear σ blocks l) (length σ) e x (z .tried) d (rw (is-true (isNested σ x) (z .nested d), y))
+          tried-found (isNear σ blocks l) (length σ) e x (z .tried) d (rw (
+            is-true (isNested σ x) (z .nested
+                d),
+            y,
+          ))
 
       module _ (n : hasBit (getD blocks (x / 64) 0) l ≡ false) (end : ℕ) (is : end ≡ x / 64 * 64 + 63) where
         missed : (f : ℕ) → x ≤ f → f ≤ end → isNear σ blocks l f ≡ false
@@ -130,6 +135,7 @@ module _ (σ : Trace) where
           let t : T (isNested σ f) = rw y tt in
           let high = acquire-event σ f (nested-acquire σ f t) .1 in
           let unmarked : hasBit (getD blocks (f / 64) 0) l ≡ false = rw y at n in
-          let free : hasBit (held σ f) l ≡ false = is-false (hasBit (held σ f) l) (not-T (hasBit (held σ f) l) (λ u.
+          let free : hasBit (held σ f) l ≡ false = is-false (hasBit (held σ f) l) (not-T (hasBit (held σ f)
+          l) (λ u.
           T-not (hasBit (getD blocks (f / 64) 0) l) (rw unmarked tt) (z .marks f high t l u))) in
           decided (isAcquire σ f) (λ a. rw (a, ← q, free)) (λ a. rw a)

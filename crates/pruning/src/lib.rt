@@ -217,13 +217,16 @@ pub fn leads_back(
     count: usize,
 ) -> bool
     requires { ⌜ (1 ≤ a) × (2 * a ≤ length (now records)) × (length (now records) ≤ 8190)
-        × (checkEvents (decodeAll (now records)) .refusal ≡ 0) × Holding (decodeAll (now records)) (now holding)
+        × (checkEvents (decodeAll (now records)) .refusal ≡ 0) × Holding (decodeAll (now records)) (now
+        holding)
         × T (isAcquire (decodeAll (now records)) a)
-        × Leading (decodeAll (now records)) a (task (decodeAll (now records)) a) (held (decodeAll (now records)) a)
+        × Leading (decodeAll (now records)) a (task (decodeAll (now records)) a) (held (decodeAll (now
+        records)) a)
         (now lead)
         × (length (now back) ≡ largestPattern) × (1 ≤ count) × (count ≤ largestPattern) ⌝ }
     ensures { λ r. ⌜ Returning (decodeAll (now (records .entry))) a count (now (back .exit))
-        × (r ≡ hasBit (getD (now (back .exit)) (count - 1) 0) (object (decodeAll (now (records .entry))) a)) ⌝ }
+        × (r ≡ hasBit (getD (now (back .exit)) (count - 1) 0) (object (decodeAll (now (records .entry))) a))
+        ⌝ }
 {
     fill_back(lead, holding[a], back, count);
     deadlock::in_mask(back[count - 1], recording::object(records, a) as u64)

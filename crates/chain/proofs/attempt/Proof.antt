@@ -17,10 +17,15 @@ use Rattle.chain.proofs.attempt.Tie as tie
 
 -- The frontier that has grown is that of the longer path.
 grown : (c : tie.After-grow)
-    → Before (decodeAll (c .before .before .before .before .before .before .before .before .before .before .before .before .before .args .records .now))
-    (take (c .before .before .before .before .before .before .before .before .before .before .before .before .before .args .len) (c .before .before .before .before .before .before .before .before .before .before .before .before .before .args .path .now) ++ c .before .before .before .before .before .before .before .before .before .before .before .before .before .args .e ∷ [])
+    → Before (decodeAll (c .before .before .before .before .before .before .before .before .before .before
+    .before .before .before .args .records .now))
+    (take (c .before .before .before .before .before .before .before .before .before .before .before .before
+    .before .args .len) (c .before .before .before .before .before .before .before .before .before
+    .before .before .before .before .args .path .now) ++ c .before .before .before .before .before
+    .before .before .before .before .before .before .before .before .args .e ∷ [])
     (c .grow .last .1 .1 .1 .1 .1 .1 .0) (c .grow .last .1 .1 .1 .1 .1 .1 .1 .0)
-grown c = let s = c .before .before .before .before .before .before .before .before .before .before .before .before .before in c .grow .ensures _ (s .pre .5) (s .pre .7)
+grown c = let s = c .before .before .before .before .before .before .before .before .before .before .before
+    .before .before in c .grow .ensures _ (s .pre .5) (s .pre .7)
 
 mul-in-mask : tie.Need-mul-in-mask
 mul-in-mask c = search needs
@@ -43,16 +48,19 @@ in-mask-requires c κs =
 returns : tie.Need-returns
 returns c =
     let s = c .before .before .before .before .before .before .before .before .before .before in (
-      attempted-nowhere (decodeAll (s .args .records .now)) (s .args .k) (take (s .args .len) (s .args .path .now))
+      attempted-nowhere (decodeAll (s .args .records .now)) (s .args .k) (take (s .args .len) (s .args .path
+          .now))
           (getD (s .args .path .now) 0 0) (s .args .e) (s .args .back .now) _ _ (s .pre .3)
-          (ap (hasBit (getD (s .args .back .now) (s .args .k) 0)) (sym (c .before .before .object .ensures .1))
+          (ap (hasBit (getD (s .args .back .now) (s .args .k) 0)) (sym (c .before .before .object .ensures
+          .1))
           ∙ sym (c .before .in-mask .ensures) ∙ not-true _ (c .if1 .taken)),
       (λ q. (refl, refl)),
     )
 
 grow-requires : tie.Need-grow-requires
 grow-requires c κs =
-    let s = c .before .before .before .before .before .before .before .before .before .before .before .before in (
+    let s = c .before .before .before .before .before .before .before .before .before .before .before .before
+    in (
       s .pre .0,
       s .pre .1,
       s .pre .2,
@@ -67,9 +75,15 @@ avoids-path-requires c κs = search needs
 
 returns-2 : tie.Need-returns-2
 returns-2 c =
-    let s = c .before .before .before .before .before .before .before .before .before .before .before .before .before .before .before .before .before in (
-      attempted-met (decodeAll (s .args .records .now)) (s .args .k) (take (s .args .len) (s .args .path .now))
-          (getD (s .args .path .now) 0 0) (s .args .e) _ _ (s .pre .5) (record-event _ (s .args .e) (s .pre .8, s .pre .9))
+    let s = c .before .before .before .before .before .before .before .before .before .before .before .before
+    .before .before .before .before .before in (
+      attempted-met (decodeAll (s .args .records .now)) (s .args .k) (take (s .args .len) (s .args .path
+          .now))
+          (getD (s .args .path .now) 0 0) (s .args .e) _ _ (s .pre .5) (record-event _ (s .args .e) (
+            s .pre
+                .8,
+            s .pre .9,
+          ))
           (grown (c .before .before .before .before))
           (sym (c .before .avoids-path .ensures) ∙ not-true _ (c .if2 .taken)),
       (λ q. absurd (omega arith)),
@@ -80,22 +94,36 @@ contains-requires c κs = search needs
 
 returns-3 : tie.Need-returns-3
 returns-3 c =
-    let s = c .before .before .before .before .before .before .before .before .before .before .before .before .before .before .before .before .before .before .before .before .before in (
-      attempted-itself (decodeAll (s .args .records .now)) (s .args .k) (take (s .args .len) (s .args .path .now))
-          (getD (s .args .path .now) 0 0) (s .args .e) _ _ (s .pre .5) (record-event _ (s .args .e) (s .pre .8, s .pre .9))
+    let s = c .before .before .before .before .before .before .before .before .before .before .before .before
+    .before .before .before .before .before .before .before .before .before in (
+      attempted-itself (decodeAll (s .args .records .now)) (s .args .k) (take (s .args .len) (s .args .path
+          .now))
+          (getD (s .args .path .now) 0 0) (s .args .e) _ _ (s .pre .5) (record-event _ (s .args .e) (
+            s .pre
+                .8,
+            s .pre .9,
+          ))
           (grown (c .before .before .before .before .before .before .before .before))
-          (sym (c .before .before .before .before .before .avoids-path .ensures) ∙ not-false _ (c .before .before .before .before .if2 .left))
+          (sym (c .before .before .before .before .before .avoids-path .ensures) ∙ not-false _ (c .before
+          .before .before .before .if2 .left))
           (sym (c .before .contains .ensures) ∙ c .if3 .taken),
       (λ q. absurd (omega arith)),
     )
 
 returns-4 : tie.Need-returns-4
 returns-4 c =
-    let s = c .before .before .before .before .before .before .before .before .before .before .before .before .before .before .before .before .before .before .before .before .before in (
-      attempted-deadlock (decodeAll (s .args .records .now)) (s .args .k) (take (s .args .len) (s .args .path .now))
-          (getD (s .args .path .now) 0 0) (s .args .e) _ _ (s .pre .5) (record-event _ (s .args .e) (s .pre .8, s .pre .9))
+    let s = c .before .before .before .before .before .before .before .before .before .before .before .before
+    .before .before .before .before .before .before .before .before .before in (
+      attempted-deadlock (decodeAll (s .args .records .now)) (s .args .k) (take (s .args .len) (s .args .path
+          .now))
+          (getD (s .args .path .now) 0 0) (s .args .e) _ _ (s .pre .5) (record-event _ (s .args .e) (
+            s .pre
+                .8,
+            s .pre .9,
+          ))
           (grown (c .before .before .before .before .before .before .before .before))
-          (sym (c .before .before .before .before .before .avoids-path .ensures) ∙ not-false _ (c .before .before .before .before .if2 .left))
+          (sym (c .before .before .before .before .before .avoids-path .ensures) ∙ not-false _ (c .before
+          .before .before .before .if2 .left))
           (sym (c .before .contains .ensures) ∙ c .if3 .left),
       (λ q. absurd (omega arith)),
     )

@@ -75,7 +75,8 @@ returns-2 : tie.Need-returns-2 Inv-loop μ-loop
 returns-2 c =
     let s = c .before .before .before .before .before in
     let l = c .before .loop in
-    rw (path-end _ (s .args .path .now) (s .args .len) (l .i) (omega (arith, c .loop-test .left))) at (l .inv .1)
+    rw (path-end _ (s .args .path .now) (s .args .len) (l .i) (omega (arith, c .loop-test .left))) at (l .inv
+    .1)
 
 pub avoids-path-spec : {M : Type 1} → statement M
 avoids-path-spec =

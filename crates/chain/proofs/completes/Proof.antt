@@ -26,7 +26,8 @@ in-mask-requires c κs =
 
 returns : tie.Need-returns
 returns c =
-    c .in-mask .ensures ∙ ap (hasBit (getD (c .before .before .before .before .before .args .back .now) 0 0)) (c .before .object .ensures .1)
+    c .in-mask .ensures ∙ ap (hasBit (getD (c .before .before .before .before .before .args .back .now) 0 0))
+    (c .before .object .ensures .1)
 
 pub completes-spec : {M : Type 1} → statement M
 completes-spec =

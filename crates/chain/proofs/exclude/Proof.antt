@@ -11,7 +11,8 @@ with-task-requires : tie.Need-with-task-requires
 with-task-requires c κs = search needs
 
 returns-2 : tie.Need-returns-2
-returns-2 c = rw (eq-eqb (c .before .before .before .args .met) 2 (c .before .if1 .left)) (c .with-task .ensures)
+returns-2 c = rw (eq-eqb (c .before .before .before .args .met) 2 (c .before .if1 .left)) (c .with-task
+    .ensures)
 
 pub exclude-spec : {M : Type 1} → statement M
 exclude-spec = tie.close (tie.spec returns with-task-requires returns-2)

@@ -31,12 +31,14 @@ extend-requires c κs =
 
 returns : tie.Need-returns
 returns c =
-    let s = c .before .before .before .before .before .before .before .before .before .before .before .before .before in
+    let s = c .before .before .before .before .before .before .before .before .before .before .before .before
+    .before in
     let b = s .args .records .now in
     let r = c .before .before .before .before .before .before .renew .ensures in
     let event = record-event b (s .args .e) (s .pre .5, s .pre .6) in
     grow-reaches (decodeAll b) (s .args .of) (s .args .e) (s .args .front .now) (s .args .latest .now)
-    (s .args .grown .now) (s .args .newest .now) _ _ (r .0) (r .1) (events-sound b (s .pre .1)) _ _ (event .0) (event .1)
+    (s .args .grown .now) (s .args .newest .now) _ _ (r .0) (r .1) (events-sound b (s .pre .1)) _ _ (event
+    .0) (event .1)
     (c .before .extend .ensures .0)
 
 pub grow-spec : {M : Type 1} → statement M

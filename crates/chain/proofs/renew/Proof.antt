@@ -12,8 +12,11 @@ returns c =
     ((λ q. (refl, refl)), (λ d. absurd (d (sym (c .before .task .ensures .1) ∙ c .if1 .taken))))
 
 returns-2 : tie.Need-returns-2
-returns-2 c =
-    ((λ q. absurd (c .before .before .if1 .left (c .before .before .before .task .ensures .1 ∙ q))), (λ d. (refl, refl)))
+returns-2 c = (
+  (λ q. absurd (c .before .before .if1 .left (c .before .before .before .task .ensures .1 ∙ q))),
+  (λ d.
+      (refl, refl)),
+)
 
 pub renew-spec : {M : Type 1} → statement M
 renew-spec = tie.close (tie.spec task-requires returns returns-2)

@@ -11,7 +11,8 @@ task-requires : tie.Need-task-requires
 task-requires c κs = search needs
 
 returns-2 : tie.Need-returns-2
-returns-2 c = rw (ne-eqb (c .before .before .before .args .met) 3 (c .before .if1 .left)) (c .task .ensures .1)
+returns-2 c = rw (ne-eqb (c .before .before .before .args .met) 3 (c .before .if1 .left)) (c .task .ensures
+    .1)
 
 pub reused-spec : {M : Type 1} → statement M
 reused-spec = tie.close (tie.spec returns task-requires returns-2)

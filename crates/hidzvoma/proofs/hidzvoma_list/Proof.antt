@@ -14,7 +14,8 @@ list-requires c κs = search needs
 refused-requires : tie.Need-refused-requires
 refused-requires c κs =
     let s = c .before .before .before .before .before .before .before .before in
-    rw (c .before .before .before .before .list .ensures .0) (list-bounds (s .args .recording .now) (s .args .largest) (length (s .args .out .now))
+    rw (c .before .before .before .before .list .ensures .0) (list-bounds (s .args .recording .now) (s .args
+    .largest) (length (s .args .out .now))
     (c .before .before .before .before .before .before .before .shared-slice-known .given 1 .fits))
 
 same-length : tie.Need-same-length
@@ -25,7 +26,8 @@ returns c =
     let s = c .before .before .before .before .before .before .before .before .before in
     let q = c .before .before .before .before .before .list .ensures .0 in (
       c .refused .ensures ∙ ap (λ (l : Listed). 2 * (65536 * l .refusal + l .event) + 1) q
-          ∙ list-refused (s .args .recording .now) (s .args .largest) (length (s .args .out .now)) (rw q at (c .before .if1 .taken)),
+          ∙ list-refused (s .args .recording .now) (s .args .largest) (length (s .args .out .now)) (rw q at
+          (c .before .if1 .taken)),
       c .before .before .before .before .before .list .ensures .1,
     )
 
@@ -37,7 +39,8 @@ returns-2 c =
     let s = c .before .before .before .before .before .before .before .before in
     let q = c .before .before .before .before .list .ensures .0 in (
       ap (λ (l : Listed). l .bytes) q
-          ∙ list-bytes (s .args .recording .now) (s .args .largest) (length (s .args .out .now)) (rw q at (c .if1 .left)),
+          ∙ list-bytes (s .args .recording .now) (s .args .largest) (length (s .args .out .now)) (rw q at (c
+          .if1 .left)),
       c .before .before .before .before .list .ensures .1,
     )
 

@@ -21,7 +21,8 @@ slice-write-path c = search needs
 
 grow-requires : tie.Need-grow-requires
 grow-requires c κs =
-    let s = c .before .before .before .before .before .before .before .before .before .before .before .before .before .before in
+    let s = c .before .before .before .before .before .before .before .before .before .before .before .before
+    .before .before in
     let b = s .args .records .now in
     let event = record-event b (s .args .a) (s .pre .1, s .pre .2) in
     let reusable = begin-reusable (decodeAll b) (events-sound b (s .pre .0 .accepted)) (s .args .a) _ _ _ _
@@ -49,17 +50,21 @@ shared-slice-read-extend c = search needs
 
 extend-requires : tie.Need-extend-requires
 extend-requires c κs =
-    let s = c .before .before .before .before .before .before .before .before .before .before .before .before .before .before .before .before .before .before .before .before .before in
+    let s = c .before .before .before .before .before .before .before .before .before .before .before .before
+    .before .before .before .before .before .before .before .before .before in
     let b = s .args .records .now in
     let event = record-event b (s .args .a) (s .pre .1, s .pre .2) in
     let same = s .pre .0 .holds .at (s .args .a) (event .0) (event .1) in
-    let before = c .before .before .before .before .before .before .grow .ensures [] tt (begin-reusable (decodeAll b) (events-sound b (s .pre .0 .accepted))
+    let before = c .before .before .before .before .before .before .grow .ensures [] tt (begin-reusable
+    (decodeAll b) (events-sound b (s .pre .0 .accepted))
     (s .args .a) _ _ _ _ (event .0) (event .1) refl refl) in (
       s .pre .0,
-      rw (c .before .before .before .before .with-task .ensures, same) (begin-open (decodeAll b) (s .args .path .now) (s .args .a) (s .pre .6)
+      rw (c .before .before .before .before .with-task .ensures, same) (begin-open (decodeAll b) (s .args
+          .path .now) (s .args .a) (s .pre .6)
           (s .args .largest) _ _ (event .0) (event .1) (s .pre .3) (s .pre .5) (s .pre .4) before),
       omega (arith, s .pre .4),
-      rw (getD-set-same (s .args .path .now) 0 (s .args .a) 0 (omega (arith, s .pre .6))) (returning-fewer (decodeAll b) _ _ _ (s .args .back .now)
+      rw (getD-set-same (s .args .path .now) 0 (s .args .a) 0 (omega (arith, s .pre .6))) (returning-fewer
+          (decodeAll b) _ _ _ (s .args .back .now)
           (omega arith) (s .pre .7)),
       s .pre .8,
       s .pre .9,
@@ -67,14 +72,21 @@ extend-requires c κs =
 
 same-length : tie.Need-same-length
 same-length c =
-    c .before .before .before .before .extend .kept .1 .1 .1 .1 .1 .1 .1 .1 .0 ∙ length-set (c .before .before .before .before .before .before .before .before .before .before .before .before .before .before .before .before .before .before .before .before .before .before .before .before .before .before .args .path .now) 0 (c .before .before .before .before .before .before .before .before .before .before .before .before .before .before .before .before .before .before .before .before .before .before .before .before .before .before .args .a)
+    c .before .before .before .before .extend .kept .1 .1 .1 .1 .1 .1 .1 .1 .0 ∙ length-set (c .before
+    .before .before .before .before .before .before .before .before .before .before .before .before
+    .before .before .before .before .before .before .before .before .before .before .before .before
+    .before .args .path .now) 0 (c .before .before .before .before .before .before .before .before
+    .before .before .before .before .before .before .before .before .before .before .before .before
+    .before .before .before .before .before .before .args .a)
 
 same-length-2 : tie.Need-same-length-2
 same-length-2 c = search needs
 
 returns : tie.Need-returns
 returns c =
-    let s = c .before .before .before .before .before .before .before .before .before .before .before .before .before .before .before .before .before .before .before .before .before .before .before .before .before .before in
+    let s = c .before .before .before .before .before .before .before .before .before .before .before .before
+    .before .before .before .before .before .before .before .before .before .before .before .before
+    .before .before in
     let b = s .args .records .now in
     let event = record-event b (s .args .a) (s .pre .1, s .pre .2) in
     let done = c .before .before .before .before .extend .ensures in (

@@ -39,7 +39,12 @@ loop-again c =
       omega (arith, c .before .loop-test .taken),
       length-set (l .out) (l .i) _ ∙ l .inv .1,
       ap (λ (o : List ℕ). set o (l .i) (getD (s .args .from .now) (l .i) 0)) (l .inv .2)
-          ∙ copy-more (s .args .out .now) (s .args .from .now) (l .i) (omega (arith, c .before .loop-test .taken, s .pre .1)),
+          ∙ copy-more (s .args .out .now) (s .args .from .now) (l .i) (omega (
+            arith,
+            c .before .loop-test
+                .taken,
+            s .pre .1,
+          )),
     )
 
 same-length : tie.Need-same-length Inv-loop μ-loop

@@ -17,7 +17,8 @@ search-requires c κs = search needs
 
 returns : tie.Need-returns
 returns c =
-    let s = c .before .before .before .before .before .before .before .before .before .before .before .before in
+    let s = c .before .before .before .before .before .before .before .before .before .before .before .before
+    in
     let b = s .args .records .now in
     let ps = deadlocks (decodeAll b) (s .args .largest) in
     delivered-none ps (s .args .out .now) _ _ _ (c .before .before .search .ensures .1) (c .if1 .taken)
@@ -33,16 +34,19 @@ same-length c = search needs
 
 -- The entries fit the buffer.
 fits : (c : tie.After-slice-known2)
-    → c .before .before .before .before .before .before .before .before .search .result .bytes ≤ length {A = ℕ} (replicate 65536 0)
+    → c .before .before .before .before .before .before .before .before .search .result .bytes ≤ length {A =
+    ℕ} (replicate 65536 0)
 fits c = rw (length-replicate {A = ℕ} 65536 0) (c .before .before .before .before .before .if2 .taken)
 
 returns-2 : tie.Need-returns-2
 returns-2 c =
-    let s = c .before .before .before .before .before .before .before .before .before .before .before .before .before .before .before .before .before .before in
+    let s = c .before .before .before .before .before .before .before .before .before .before .before .before
+    .before .before .before .before .before .before in
     let b = s .args .records .now in
     let ps = deadlocks (decodeAll b) (s .args .largest) in
     let found = c .before .before .before .before .before .before .before .before .search .ensures in
-    delivered-copied ps (s .args .out .now) _ _ _ (found .1) (c .before .before .before .before .before .before .if1 .left) (found .0 .bytes-le) (fits c) _ (c .before .before .copy .ensures)
+    delivered-copied ps (s .args .out .now) _ _ _ (found .1) (c .before .before .before .before .before
+    .before .if1 .left) (found .0 .bytes-le) (fits c) _ (c .before .before .copy .ensures)
 
 search-requires-2 : tie.Need-search-requires-2
 search-requires-2 c κs = search needs
@@ -52,12 +56,14 @@ same-length-2 c = search needs
 
 returns-3 : tie.Need-returns-3
 returns-3 c =
-    let s = c .before .before .before .before .before .before .before .before .before .before .before .before .before .before .before .before .before in
+    let s = c .before .before .before .before .before .before .before .before .before .before .before .before
+    .before .before .before .before .before in
     let b = s .args .records .now in
     let ps = deadlocks (decodeAll b) (s .args .largest) in
     let found = c .before .before .before .before .before .before .before .search .ensures in
     let again = c .before .before .search2 .ensures in
-    delivered-again ps (s .args .out .now) _ _ _ (found .1) (c .before .before .before .before .before .if1 .left) (found .0 .bytes-le) _ _ (again .1) (again .0 .bytes-le)
+    delivered-again ps (s .args .out .now) _ _ _ (found .1) (c .before .before .before .before .before .if1
+    .left) (found .0 .bytes-le) _ _ (again .1) (again .0 .bytes-le)
 
 pub deliver-spec : {M : Type 1} → statement M
 deliver-spec =

@@ -70,14 +70,19 @@ slice-aggregate-deliver-6 c = search needs
 
 deliver-requires : tie.Need-deliver-requires
 deliver-requires c κs =
-    let s = c .before .before .before .before .before .before .before .before .before .before .before .before .before .before .before .before .before .before .before .before .before .before .before .before .before .before .before .before .before .before .before .before .before in
-    let tables = c .before .before .before .before .before .before .before .before .before .before .before .before .before .before .before .before .before .before .before .before .before .before .before .fill-tables .ensures in (
+    let s = c .before .before .before .before .before .before .before .before .before .before .before .before
+    .before .before .before .before .before .before .before .before .before .before .before .before
+    .before .before .before .before .before .before .before .before .before in
+    let tables = c .before .before .before .before .before .before .before .before .before .before .before
+    .before .before .before .before .before .before .before .before .before .before .before .before
+    .fill-tables .ensures in (
       record {
         short = s .pre .0;
         accepted = s .pre .1;
         holds = tables-holding tables;
         needed = tables-needed tables;
-        linked = c .before .before .before .before .before .before .before .before .before .before .before .before .before .link-nested .ensures;
+        linked = c .before .before .before .before .before .before .before .before .before .before .before
+            .before .before .link-nested .ensures;
         marked = c .before .before .before .before .before .before .before .before .mark-blocks .ensures;
       },
       s .pre .2,

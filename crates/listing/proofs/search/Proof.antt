@@ -1,4 +1,5 @@
--- `listing::search` meets its contract: what the events before the next one begin has been taken. Assumes nothing.
+-- `listing::search` meets its contract: what the events before the next one begin has been taken. Assumes
+-- nothing.
 use Prim.Native.Nat.{suc, _-_}
 use mathlib.Core.Path.{_≡_, refl, _∙_}
 use native.Mathlib.Omega.{arith}
@@ -15,12 +16,14 @@ use Rattle.listing.proofs.search.Statement.{statement}
 use Rattle.listing.proofs.search.Tie as tie
 
 abbrev Inv-loop : tie.InvT-loop
-Inv-loop records holding predecessors writers matches next blocks largest out₀ room lead path₀ found₀ a₀ out path found a =
+Inv-loop records holding predecessors writers matches next blocks largest out₀ room lead path₀ found₀ a₀ out
+    path found a =
     (length path ≡ largestPattern) × (length out ≡ length out₀)
     × Searching (decodeAll records) (largest - 1) room a out₀ out found
 
 abbrev μ-loop : tie.MeasureT-loop
-μ-loop records holding predecessors writers matches next blocks largest out₀ room lead path₀ found₀ a₀ out path found a = toVisit (length (decodeAll records)) a
+μ-loop records holding predecessors writers matches next blocks largest out₀ room lead path₀ found₀ a₀ out
+    path found a = toVisit (length (decodeAll records)) a
 
 slice-aggregate-note-leads : tie.Need-slice-aggregate-note-leads Inv-loop μ-loop
 slice-aggregate-note-leads c = search needs
@@ -33,23 +36,27 @@ note-leads-requires c κs =
 
 shared-slice-read-a : tie.Need-shared-slice-read-a Inv-loop μ-loop
 shared-slice-read-a c =
-    let s = c .before .before .before .before .before .before .before .before .before .before .before .before in
+    let s = c .before .before .before .before .before .before .before .before .before .before .before .before
+    in
     let b = s .args .records .now in
     omega (arith, s .pre .0 .linked .long)
 
 cast-a : tie.Need-cast-a Inv-loop μ-loop
 cast-a c =
-    let s = c .before .before .before .before .before .before .before .before .before .before .before .before in
+    let s = c .before .before .before .before .before .before .before .before .before .before .before .before
+    in
     let b = s .args .records .now in
     omega (arith, c .shared-slice-known8 .given 0)
 
 loop-holds : tie.Need-loop-holds Inv-loop μ-loop
 loop-holds c =
-    let s = c .before .before .before .before .before .before .before .before .before .before .before .before in
+    let s = c .before .before .before .before .before .before .before .before .before .before .before .before
+    in
     let b = s .args .records .now in (
       refl,
       refl,
-      searching-start (decodeAll b) (s .args .largest - 1) (s .args .room) _ (s .pre .0 .linked .link 0 (omega arith))
+      searching-start (decodeAll b) (s .args .largest - 1) (s .args .room) _ (s .pre .0 .linked .link 0
+          (omega arith))
           (s .args .out .now) _ (record { bytes-le = omega arith; patterns-le = omega arith }) refl refl refl,
     )
 
@@ -61,7 +68,8 @@ slice-aggregate-search-first-2 c = search needs
 
 search-first-requires : tie.Need-search-first-requires Inv-loop μ-loop
 search-first-requires c κs =
-    let s = c .before .before .before .before .before .before .before .before .before .before .before .before .before .before .before .before .before in
+    let s = c .before .before .before .before .before .before .before .before .before .before .before .before
+    .before .before .before .before .before in
     let b = s .args .records .now in
     let l = c .before .before .before .before .loop in
     let d = c .before .before .before .loop-test .taken in
@@ -79,24 +87,28 @@ search-first-requires c κs =
     )
 
 same-length : tie.Need-same-length Inv-loop μ-loop
-same-length c = c .before .before .before .before .search-first .kept .1 .1 .1 .1 .1 .1 .1 .1 .1 .1 .1 .0 ∙ c .before .before .before .before .before .before .before .before .before .loop .inv .1
+same-length c = c .before .before .before .before .search-first .kept .1 .1 .1 .1 .1 .1 .1 .1 .1 .1 .1 .0 ∙ c
+    .before .before .before .before .before .before .before .before .before .loop .inv .1
 
 returns : tie.Need-returns Inv-loop μ-loop
 returns c =
-    let s = c .before .before .before .before .before .before .before .before .before .before .before .before .before .before .before .before .before .before .before .before .before .before in
+    let s = c .before .before .before .before .before .before .before .before .before .before .before .before
+    .before .before .before .before .before .before .before .before .before .before in
     let b = s .args .records .now in
     let l = c .before .before .before .before .before .before .before .before .before .loop in
     let d = c .before .before .before .before .before .before .before .before .loop-test .taken in
     let done = c .before .before .before .before .search-first .ensures in
     let size : s .args .largest ≡ suc (s .args .largest - 1) = omega (arith, s .pre .1) in (
       done .0,
-      rw size (searching-over (decodeAll b) (s .args .largest - 1) (s .args .room) (l .a) _ _ _ _ _ (l .inv .2) d (done .1)
+      rw size (searching-over (decodeAll b) (s .args .largest - 1) (s .args .room) (l .a) _ _ _ _ _ (l .inv
+          .2) d (done .1)
           (omega (arith, s .pre .1, s .pre .2)) (c .if1 .taken)),
     )
 
 mul-a : tie.Need-mul-a Inv-loop μ-loop
 mul-a c =
-    let s = c .before .before .before .before .before .before .before .before .before .before .before .before .before .before .before .before .before .before .before .before .before .before in
+    let s = c .before .before .before .before .before .before .before .before .before .before .before .before
+    .before .before .before .before .before .before .before .before .before .before in
     let b = s .args .records .now in
     let l = c .before .before .before .before .before .before .before .before .before .loop in
     let d = c .before .before .before .before .before .before .before .before .loop-test .taken in
@@ -105,7 +117,8 @@ mul-a c =
 
 shared-slice-read-a-2 : tie.Need-shared-slice-read-a-2 Inv-loop μ-loop
 shared-slice-read-a-2 c =
-    let s = c .before .before .before .before .before .before .before .before .before .before .before .before .before .before .before .before .before .before .before .before .before .before .before in
+    let s = c .before .before .before .before .before .before .before .before .before .before .before .before
+    .before .before .before .before .before .before .before .before .before .before .before in
     let b = s .args .records .now in
     let l = c .before .before .before .before .before .before .before .before .before .before .loop in
     let d = c .before .before .before .before .before .before .before .before .before .loop-test .taken in
@@ -114,7 +127,8 @@ shared-slice-read-a-2 c =
 
 cast-a-2 : tie.Need-cast-a-2 Inv-loop μ-loop
 cast-a-2 c =
-    let s = c .before .before .before .before .before .before .before .before .before .before .before .before .before .before .before .before .before .before .before .before .before .before .before in
+    let s = c .before .before .before .before .before .before .before .before .before .before .before .before
+    .before .before .before .before .before .before .before .before .before .before .before in
     let b = s .args .records .now in
     let l = c .before .before .before .before .before .before .before .before .before .before .loop in
     let d = c .before .before .before .before .before .before .before .before .before .loop-test .taken in
@@ -122,7 +136,8 @@ cast-a-2 c =
 
 loop-less : tie.Need-loop-less Inv-loop μ-loop
 loop-less c =
-    let s = c .before .before .before .before .before .before .before .before .before .before .before .before .before .before .before .before .before .before .before .before .before .before .before in
+    let s = c .before .before .before .before .before .before .before .before .before .before .before .before
+    .before .before .before .before .before .before .before .before .before .before .before in
     let b = s .args .records .now in
     let l = c .before .before .before .before .before .before .before .before .before .before .loop in
     let d = c .before .before .before .before .before .before .before .before .before .loop-test .taken in
@@ -131,15 +146,18 @@ loop-less c =
 
 loop-again : tie.Need-loop-again Inv-loop μ-loop
 loop-again c =
-    let s = c .before .before .before .before .before .before .before .before .before .before .before .before .before .before .before .before .before .before .before .before .before .before .before in
+    let s = c .before .before .before .before .before .before .before .before .before .before .before .before
+    .before .before .before .before .before .before .before .before .before .before .before in
     let b = s .args .records .now in
     let l = c .before .before .before .before .before .before .before .before .before .before .loop in
     let d = c .before .before .before .before .before .before .before .before .before .loop-test .taken in
     let e = l .inv .2 .event d in
     let done = c .before .before .before .before .before .search-first .ensures in (
       c .before .before .before .before .before .search-first .kept .1 .1 .1 .1 .1 .1 .1 .1 .0 ∙ l .inv .0,
-      c .before .before .before .before .before .search-first .kept .1 .1 .1 .1 .1 .1 .1 .1 .1 .1 .1 .0 ∙ l .inv .1,
-      searching-next (decodeAll b) (s .args .largest - 1) (s .args .room) (l .a) _ _ _ _ _ (l .inv .2) d (done .1) _
+      c .before .before .before .before .before .search-first .kept .1 .1 .1 .1 .1 .1 .1 .1 .1 .1 .1 .0 ∙ l
+          .inv .1,
+      searching-next (decodeAll b) (s .args .largest - 1) (s .args .room) (l .a) _ _ _ _ _ (l .inv .2) d
+          (done .1) _
           (s .pre .0 .linked .link (l .a) (e .1)) (done .0) (c .before .if1 .left),
     )
 
@@ -148,12 +166,14 @@ same-length-2 c = c .before .loop .inv .1
 
 returns-2 : tie.Need-returns-2 Inv-loop μ-loop
 returns-2 c =
-    let s = c .before .before .before .before .before .before .before .before .before .before .before .before .before .before in
+    let s = c .before .before .before .before .before .before .before .before .before .before .before .before
+    .before .before in
     let b = s .args .records .now in
     let l = c .before .loop in
     let q : s .args .largest ≡ suc (s .args .largest - 1) = omega (arith, s .pre .1) in (
       l .inv .2 .roomy,
-      rw q (searching-end (decodeAll b) (s .args .largest - 1) (s .args .room) (l .a) _ _ _ (l .inv .2) (c .loop-test .left)
+      rw q (searching-end (decodeAll b) (s .args .largest - 1) (s .args .room) (l .a) _ _ _ (l .inv .2) (c
+          .loop-test .left)
           (omega (arith, s .pre .1, s .pre .2))),
     )
 

@@ -1,4 +1,5 @@
--- `listing::search_first` meets its contract: an acquire whose lock does not lead back begins nothing. Assumes
+-- `listing::search_first` meets its contract: an acquire whose lock does not lead back begins nothing.
+-- Assumes
 -- nothing.
 use mathlib.Core.Path.{refl, sym, _∙_}
 use native.Mathlib.Omega.{arith}
@@ -28,7 +29,8 @@ leads-back-requires c κs =
       s .pre .0 .accepted,
       s .pre .0 .holds,
       s .pre .4,
-      leading-all (decodeAll b) (events-sound b (s .pre .0 .accepted)) (s .args .a) (s .args .lead .now) (s .pre .1),
+      leading-all (decodeAll b) (events-sound b (s .pre .0 .accepted)) (s .args .a) (s .args .lead .now) (s
+          .pre .1),
       refl,
       omega (arith, s .pre .5),
       s .pre .6,
@@ -36,7 +38,8 @@ leads-back-requires c κs =
 
 returns : tie.Need-returns
 returns c =
-    let s = c .before .before .before .before .before .before .before .before .before .before .before .before .before .before in
+    let s = c .before .before .before .before .before .before .before .before .before .before .before .before
+    .before .before in
     let b = s .args .records .now in
     let back = c .before .before .leads-back .ensures in (
       s .pre .8,
@@ -67,7 +70,8 @@ slice-aggregate-leads-back-3 c = search needs
 
 leads-back-requires-2 : tie.Need-leads-back-requires-2
 leads-back-requires-2 c κs =
-    let s = c .before .before .before .before .before .before .before .before .before .before .before .before .before .before .before .before .before .before .before .before .before in
+    let s = c .before .before .before .before .before .before .before .before .before .before .before .before
+    .before .before .before .before .before .before .before .before .before in
     let b = s .args .records .now in
     let event = record-event b (s .args .a) (s .pre .2, s .pre .3) in (
       s .pre .2,
@@ -76,7 +80,11 @@ leads-back-requires-2 c κs =
       s .pre .0 .accepted,
       s .pre .0 .holds,
       s .pre .4,
-      rw (← (c .before .before .before .before .before .before .task .ensures .1), ← (s .pre .0 .holds .at (s .args .a) (event .0) (event .1)))
+      rw (
+        ← (c .before .before .before .before .before .before .task .ensures .1),
+        ← (s .pre .0 .holds .at (s
+            .args .a) (event .0) (event .1)),
+      )
           (c .before .before .before .note-leads .ensures),
       c .before .before .before .before .before .before .before .before .before .leads-back .ensures .0 .long,
       omega (arith, s .pre .5),
@@ -85,7 +93,8 @@ leads-back-requires-2 c κs =
 
 returns-2 : tie.Need-returns-2
 returns-2 c =
-    let s = c .before .before .before .before .before .before .before .before .before .before .before .before .before .before .before .before .before .before .before .before .before .before .before .before in
+    let s = c .before .before .before .before .before .before .before .before .before .before .before .before
+    .before .before .before .before .before .before .before .before .before .before .before .before in
     let b = s .args .records .now in
     let back = c .before .before .leads-back2 .ensures in (
       s .pre .8,
@@ -98,7 +107,9 @@ slice-aggregate-begin c = search needs
 
 begin-requires : tie.Need-begin-requires
 begin-requires c κs =
-    let s = c .before .before .before .before .before .before .before .before .before .before .before .before .before .before .before .before .before .before .before .before .before .before .before .before .before .before .before in
+    let s = c .before .before .before .before .before .before .before .before .before .before .before .before
+    .before .before .before .before .before .before .before .before .before .before .before .before
+    .before .before .before in
     let b = s .args .records .now in (
       s .pre .0,
       s .pre .2,
@@ -120,11 +131,14 @@ same-length-2 c = search needs
 
 returns-3 : tie.Need-returns-3
 returns-3 c =
-    let s = c .before .before .before .before .before .before .before .before .before .before .before .before .before .before .before .before .before .before .before .before .before .before .before .before .before .before .before .before .before .before .before .before in
+    let s = c .before .before .before .before .before .before .before .before .before .before .before .before
+    .before .before .before .before .before .before .before .before .before .before .before .before
+    .before .before .before .before .before .before .before .before in
     let b = s .args .records .now in
     let done = c .before .before .before .before .begin .ensures in (
       done .0,
-      rw (beginning-acquire (decodeAll b) _ (s .args .a) (is-true (isAcquire (decodeAll b) (s .args .a)) (s .pre .4)))
+      rw (beginning-acquire (decodeAll b) _ (s .args .a) (is-true (isAcquire (decodeAll b) (s .args .a)) (s
+          .pre .4)))
           (done .1),
     )
 

@@ -11,7 +11,8 @@ returns-2 : tie.Need-returns-2
 returns-2 c = size-low (c .before .before .args .largest) (c .before .if1 .left) (c .if2 .taken)
 
 returns-3 : tie.Need-returns-3
-returns-3 c = size-high (c .before .before .before .args .largest) (c .before .before .if1 .left) (c .if3 .taken)
+returns-3 c = size-high (c .before .before .before .args .largest) (c .before .before .if1 .left) (c .if3
+    .taken)
 
 returns-4 : tie.Need-returns-4
 returns-4 c = size-itself (c .before .before .before .args .largest) (c .before .before .if1 .left)

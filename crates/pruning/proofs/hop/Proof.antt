@@ -91,7 +91,11 @@ returns-2 c =
     let l = c .before .before .before .before .before .loop in
     let d = c .before .before .before .before .loop-test .taken in
     hopping-last (decodeAll b) (s .args .blocks .now) (s .args .l) (s .args .e) (l .x) (l .inv) d
-    (sym (c .before .before .in-mask .ensures) ∙ c .before .if1 .left) _ refl (omega (arith, c .if2 .taken, decodeAll-length b))
+    (sym (c .before .before .in-mask .ensures) ∙ c .before .if1 .left) _ refl (omega (
+      arith,
+      c .if2 .taken,
+      decodeAll-length b,
+    ))
 
 mul-x-2 : tie.Need-mul-x-2 Inv-loop μ-loop
 mul-x-2 c =
@@ -110,7 +114,11 @@ shared-slice-read-x-2 c =
     omega (arith, l .inv .tried .event d .1, decodeAll-length b, s .pre .2, s .pre .3 .long)
 
 cast-x-2 : tie.Need-cast-x-2 Inv-loop μ-loop
-cast-x-2 c = omega (arith, c .shared-slice-known6 .given (c .before .before .before .before .before .before .loop .x / 64 * 64 + 63))
+cast-x-2 c = omega (
+  arith,
+  c .shared-slice-known6 .given (c .before .before .before .before .before .before
+      .loop .x / 64 * 64 + 63),
+)
 
 loop-less : tie.Need-loop-less Inv-loop μ-loop
 loop-less c =
@@ -118,7 +126,12 @@ loop-less c =
     let b = s .args .records .now in
     let l = c .before .before .before .before .before .before .loop in
     let d = c .before .before .before .before .before .loop-test .taken in
-    toVisit-later (isNested (decodeAll b)) _ (l .x) _ _ (s .pre .3 .link _ (omega (arith, c .before .if2 .left, decodeAll-length b)))
+    toVisit-later (isNested (decodeAll b)) _ (l .x) _ _ (s .pre .3 .link _ (omega (
+      arith,
+      c .before .if2
+          .left,
+      decodeAll-length b,
+    )))
     d (l .inv .tried .event d .1) (omega arith)
 
 loop-again : tie.Need-loop-again Inv-loop μ-loop
@@ -136,7 +149,8 @@ returns-3 c =
     let s = c .before .before .before .before .before .before in
     let b = s .args .records .now in
     let l = c .before .loop in
-    hopping-none (decodeAll b) (s .args .blocks .now) (s .args .l) (s .args .e) (l .x) (l .inv) (c .loop-test .left)
+    hopping-none (decodeAll b) (s .args .blocks .now) (s .args .l) (s .args .e) (l .x) (l .inv) (c .loop-test
+    .left)
 
 pub hop-spec : {M : Type 1} → statement M
 hop-spec =

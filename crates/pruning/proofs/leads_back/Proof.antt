@@ -47,7 +47,8 @@ same-length c = search needs
 
 returns : tie.Need-returns
 returns c =
-    let s = c .before .before .before .before .before .before .before .before .before .before .before .before in
+    let s = c .before .before .before .before .before .before .before .before .before .before .before .before
+    in
     let b = s .args .records .now in
     let back = c .before .before .before .before .before .fill-back in
     let event = record-event b (s .args .a) (s .pre .0, s .pre .1) in (

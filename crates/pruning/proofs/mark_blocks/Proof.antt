@@ -123,7 +123,13 @@ loop-again c =
     let l = c .before .before .before .before .loop in
     let d = c .before .before .before .loop-test .taken in
     let e = l .inv .event d in
-    marking-next (decodeAll b) (l .blocks) (l .e) (l .inv) d (omega (arith, e .1, decodeAll-length b, s .pre .0)) _
+    marking-next (decodeAll b) (l .blocks) (l .e) (l .inv) d (omega (
+      arith,
+      e .1,
+      decodeAll-length b,
+      s .pre
+          .0,
+    )) _
     (s .pre .1 .at (l .e) (e .0) (e .1)) _ (s .pre .2 .link (l .e) (e .1))
 
 same-length : tie.Need-same-length Inv-loop μ-loop
