@@ -1,13 +1,13 @@
 -- What the call answers: of the size argument, and of what was found. Assumes nothing.
-use Prim.Native.Nat.{ℕ, suc, _+_, _≤_, _<_}
+use Prim.Native.Nat.{ℕ, _≤_, _<_}
 use mathlib.Core.Path.{_≡_, refl, sym, ap, subst, _∙_}
 use mathlib.Core.Logic.{_⊎_, inl, inr, ⊎-elim, _≢_}
 use mathlib.Core.Bool.{true, false, cond}
-use mathlib.Core.List.{List, [], _∷_}
+use mathlib.Core.List.{List}
 use native.Mathlib.Omega.{arith}
 use lib.Dec.{T}
-use lib.ListN.{length, getD, take, drop, set, length-take}
-use lib.Seq.{sets, take-suc, take-append-seam}
+use lib.ListN.{length, take, drop}
+use lib.Seq.{sets, take-append-seam}
 use borrow.Author.Tests.{eq-eqb, ne-eqb, le-leb, lt-leb}
 use Rattle.model.specs.Recording.{trace}
 use Rattle.model.specs.Listing.{deadlocks}
@@ -16,7 +16,7 @@ use Rattle.model.specs.Calls.Check.{check}
 use Rattle.model.specs.Calls.List.{largestSize, entries, listing, listRefusal, list, listOut}
 use Rattle.laws.specs.Answered.{refusedListing}
 use Rattle.laws.proofs.Tests.{equal?, at-most?}
-use Rattle.laws.proofs.Parts.{sets-append, sets-written}
+use Rattle.laws.proofs.Parts.{sets-written}
 use Rattle.entries.specs.declared.Found.{Found}
 use Rattle.entries.specs.Taken.{Taken}
 use Rattle.listing.specs.Delivered.{Delivered}
@@ -58,17 +58,6 @@ size-question k =
     (λ (h : k < 2). inl (rw (ne-eqb k 0 d, lt-leb 2 k h)))
     (at-most? 2 k))
     (equal? k 0)
-
--- ---- the copy
-
--- One byte more.
-pub copy-more : (out from : List ℕ) (i : ℕ) → i < length from
-    → set (sets out 0 (take i from)) i (getD from i 0) ≡ sets out 0 (take (i + 1) from)
-copy-more out from i h =
-    let q : i + 1 ≡ suc i = omega arith in
-    let size : 0 + length (take i from) ≡ i = omega (arith, length-take i from) in
-    rw (q, take-suc from i 0 h) (ap (λ (k : ℕ). set (sets out 0 (take i from)) k (getD from i 0)) (sym size)
-    ∙ sets-append out 0 (take i from) (getD from i 0 ∷ []))
 
 -- ---- what is delivered
 

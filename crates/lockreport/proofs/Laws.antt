@@ -5,30 +5,18 @@ use mathlib.Core.Logic.{⊎-elim}
 use mathlib.Core.List.{List, [], _∷_, _++_}
 use native.Mathlib.Omega.{arith}
 use native.Mathlib.Nat.{pow-le-pow-right, add-zero}
-use native.Mathlib.Numerals.{add-one}
-use lib.ListN.{length, getD, take, drop, set, length-drop, length-append}
-use lib.Seq.{sets, take-suc, length-take-le, take-append-seam, drop-append-seam, drop-drop, getD-drop}
+use lib.ListN.{length, getD, take, drop, length-drop, length-append}
+use lib.Seq.{take-append-seam, drop-append-seam, drop-drop, getD-drop}
 use Rattle.io.specs.Digits.{Fewest}
 use Rattle.model.specs.declared.Listed.{Listed}
 use Rattle.model.specs.Bytes.{numbers, encode}
 use Rattle.model.specs.Calls.List.{entries, listing, list, listOut}
 use Rattle.laws.proofs.Tests.{at-most?}
 use Rattle.laws.proofs.Bytes.{numbers-at, encode-length}
-use Rattle.laws.proofs.Parts.{sets-append}
 use Rattle.laws.proofs.Calls.{entries-length, list-answer, listOut-written}
 use Rattle.lockreport.specs.Text.{Entries}
 
 -- ---- text
-
--- One byte more is put.
-pub put-more : (text bytes : List ℕ) (at i : ℕ) → i < length bytes
-    → set (sets text at (take i bytes)) (at + i) (getD bytes i 0) ≡ sets text at (take (i + 1) bytes)
-put-more text bytes at i h =
-    let long = length-take-le i bytes (omega arith) in
-    let byte = getD bytes i 0 in
-    rw (add-one i, take-suc bytes i 0 h)
-    (ap (λ (k : ℕ). set (sets text at (take i bytes)) (at + k) byte) (sym long)
-    ∙ sets-append text at (take i bytes) (byte ∷ []))
 
 -- A number that m digits hold has no more of them.
 pub digits-le : (n k m : ℕ) → 1 ≤ m → n < 10 ^ m → Fewest 10 1 n k → k ≤ m

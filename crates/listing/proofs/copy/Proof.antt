@@ -6,7 +6,8 @@ use native.Mathlib.Omega.{arith}
 use borrow.Author.Needs.{needs}
 use lib.ListN.{length, getD, take, set, length-set}
 use lib.Seq.{sets}
-use Rattle.listing.proofs.Answers.{copy-more}
+use native.Mathlib.Nat.{zero-add}
+use Rattle.laws.proofs.Parts.{sets-more}
 use Rattle.listing.proofs.copy.Statement.{statement}
 use Rattle.listing.proofs.copy.Tie as tie
 
@@ -39,12 +40,8 @@ loop-again c =
       omega (arith, c .before .loop-test .taken),
       length-set (l .out) (l .i) _ ∙ l .inv .1,
       ap (λ (o : List ℕ). set o (l .i) (getD (s .args .from .now) (l .i) 0)) (l .inv .2)
-          ∙ copy-more (s .args .out .now) (s .args .from .now) (l .i) (omega (
-            arith,
-            c .before .loop-test
-                .taken,
-            s .pre .1,
-          )),
+          ∙ rw (zero-add (l .i)) at (sets-more (s .args .out .now) (s .args .from .now) 0 (l .i)
+          (omega (arith, c .before .loop-test .taken, s .pre .1))),
     )
 
 same-length : tie.Need-same-length Inv-loop μ-loop

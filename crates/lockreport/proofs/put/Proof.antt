@@ -6,7 +6,7 @@ use native.Mathlib.Omega.{arith}
 use borrow.Author.Needs.{needs}
 use lib.ListN.{length, getD, take, set, length-set}
 use lib.Seq.{sets, take-all}
-use Rattle.lockreport.proofs.Laws.{put-more}
+use Rattle.laws.proofs.Parts.{sets-more}
 use Rattle.lockreport.proofs.put.Statement.{statement}
 use Rattle.lockreport.proofs.put.Tie as tie
 
@@ -43,7 +43,7 @@ loop-again c =
       omega arith,
       length-set (l .text) (a .at + l .i) _ ∙ l .inv .1,
       ap (λ (t : List ℕ). set t (a .at + l .i) (getD (a .bytes .now) (l .i) 0)) (l .inv .2)
-          ∙ put-more (a .text .now) (a .bytes .now) (a .at) (l .i) (omega arith),
+          ∙ sets-more (a .text .now) (a .bytes .now) (a .at) (l .i) (omega arith),
     )
 
 add-result : tie.Need-add-result Inv-loop μ-loop
