@@ -1,5 +1,5 @@
-// Entries for measuring: the check alone, the check with the tables of every event filled after it, and the
-// decision on one pattern many times over.
+// Entries for measuring: the check alone, the check with the tables of every event filled after it, the
+// decision on one pattern many times over, and a number of each other call's answer.
 ghost use Prim.Native.Nat.{_<_, _≤_};
 ghost use mathlib.Core.Path.{_≡_};
 ghost use mathlib.Core.Bool.{cond};
@@ -7,6 +7,11 @@ ghost use lib.ListN.{length};
 ghost use Rattle.model.specs.Recording.{decodeAll};
 ghost use Rattle.model.specs.Calls.Questions.{isAccepted};
 ghost use Rattle.model.specs.Calls.Check.{checkEvents, check};
+ghost use Rattle.model.specs.Calls.Relations.{relations};
+ghost use Rattle.model.specs.Calls.Load.{load};
+ghost use Rattle.model.specs.Calls.Close.{close, closeOut};
+ghost use Rattle.model.specs.Calls.Witness.{witness, witnessOut};
+ghost use Rattle.model.specs.Calls.CheckSchedule.{checkSchedule};
 ghost use Rattle.frontier.specs.Visit.{Needed};
 ghost use Rattle.deadlock.specs.Judged.{Holding};
 
@@ -146,4 +151,57 @@ pub extern "C" fn timed_verdicts(recording: &[u8], pattern: &[u8], rounds: u64) 
         return 0;
     }
     decide_with_tables(&recording[2..], pattern, rounds)
+}
+
+// The held locks of an event.
+#[no_mangle]
+pub extern "C" fn timed_relations(recording: &[u8], event: u64) -> u64
+    ensures { λ r. ⌜ r ≡ relations (now (recording .entry)) event .held ⌝ }
+{
+    let found = relations::relations(recording, event);
+    found.held
+}
+
+// A lock's load.
+#[no_mangle]
+pub extern "C" fn timed_load(recording: &[u8], lock: u64) -> u64
+    ensures { λ r. ⌜ r ≡ load (now (recording .entry)) lock .percent ⌝ }
+{
+    let loaded = load::load(recording, lock);
+    loaded.percent
+}
+
+// How many events a closure adds.
+#[no_mangle]
+pub extern "C" fn timed_close(recording: &[u8], set: &mut [u8]) -> u64
+    ensures added { λ r. ⌜ r ≡ close (now (recording .entry)) (now (set .entry)) .added ⌝ }
+    ensures closed { λ r. ⌜ now (set .exit) ≡ closeOut (now (recording .entry)) (now (set .entry)) ⌝ }
+{
+    let closed = closure::close(recording, set);
+    closed.added
+}
+
+// How many bytes of schedule are written.
+#[no_mangle]
+pub extern "C" fn timed_witness(recording: &[u8], pattern: &[u8], out: &mut [u8]) -> u64
+    ensures bytes { λ r. ⌜ r ≡ witness (now (recording .entry)) (now (pattern .entry))
+        (length (now (out .entry))) .bytes ⌝ }
+    ensures output { λ r. ⌜ now (out .exit) ≡ witnessOut (now (recording .entry)) (now (pattern .entry))
+        (now (out .entry)) ⌝ }
+{
+    let written = deadlock::witness(recording, pattern, out);
+    written.bytes
+}
+
+// 1 for a valid schedule, otherwise 0.
+#[no_mangle]
+pub extern "C" fn timed_schedule(recording: &[u8], pattern: &[u8], schedule: &[u8]) -> u64
+    ensures { λ r. ⌜ r ≡ cond (checkSchedule (now (recording .entry)) (now (pattern .entry))
+        (now (schedule .entry)) .valid) 1 0 ⌝ }
+{
+    let checked = schedule::check_schedule(recording, pattern, schedule);
+    if checked.valid {
+        return 1;
+    }
+    0
 }

@@ -1,0 +1,160 @@
+//! Random arguments for a well-formed recording, in and out of range.
+
+use crate::closure::put_into_set;
+use crate::patterns::{is_deadlock, Search};
+use crate::random::Random;
+use crate::recording::{bytes_from, Recording};
+
+/// A largest size: mostly one of 0 and 2 to 16, else one that question 8 refuses.
+pub fn size(random: &mut Random) -> u64 {
+    if random.chance(92) {
+        random.pick(&[0, 2, 2, 2, 3, 3, 4, 5, 6, 7, 8, 9, 10, 11, 12, 13, 14, 15, 16, 16, 16, 16, 16, 16])
+    } else {
+        random.pick(&[1, 1, 17, 18, 256, 258, 65_536, 65_538, (1 << 32) + 2, u64::MAX])
+    }
+}
+
+/// An event number: mostly 1 to n, else one that question 9 refuses.
+pub fn event(random: &mut Random, n: usize) -> u64 {
+    if n > 0 && random.chance(85) {
+        return random.between(1, n) as u64;
+    }
+    let n = n as u64;
+    random.pick(&[0, 0, 1, n, n + 1, n + 1, n + 2, 4096, 65_536, 65_537, (1 << 32) + 1, u64::MAX])
+}
+
+/// A lock number: mostly one that occurs, else any or one that question 14 refuses.
+pub fn lock(random: &mut Random, recording: &Recording) -> u64 {
+    let locks: Vec<u64> = (1..=recording.count())
+        .filter(|&e| recording.is_acquire(e))
+        .map(|e| recording.event(e).object as u64)
+        .collect();
+    match random.below(10) {
+        0..=6 if !locks.is_empty() => random.pick(&locks),
+        7 => random.below(64) as u64,
+        _ => random.pick(&[0, 62, 63, 63, 64, 64, 65, 256, 319, 65_536, 1 << 32, u64::MAX]),
+    }
+}
+
+/// A set of events: few members or many, at times of a wrong length or with bits after event n.
+pub fn set(random: &mut Random, recording: &Recording) -> Vec<u8> {
+    let n = recording.count();
+    let mut set = vec![0; n.div_ceil(8)];
+    let members = random.pick(&[0, 1, 1, 2, 2, 2, 3, 4, n / 4, n]);
+    for _ in 0..members.min(n) * usize::from(n > 0) {
+        put_into_set(&mut set, random.between(1, n));
+    }
+    if n > 0 && random.chance(15) {
+        put_into_set(&mut set, random.pick(&[1, n]));
+    }
+    let bits = 8 * set.len();
+    if bits > n && random.chance(10) {
+        put_into_set(&mut set, random.between(n + 1, bits));
+    }
+    match random.below(20) {
+        0 => set.push(random.pick(&[0, 255])),
+        1 => set.truncate(n.div_ceil(8).saturating_sub(1)),
+        2 => set.clear(),
+        _ => {}
+    }
+    set
+}
+
+/// The length of lent bytes where so many are written: exact, short, longer or none.
+pub fn room(random: &mut Random, needed: usize) -> usize {
+    match random.below(10) {
+        0..=3 => needed,
+        4..=5 => needed.saturating_sub(1),
+        6 => needed + random.between(1, 20),
+        7 => needed + 1,
+        8 => random.below(needed + 1),
+        _ => random.pick(&[0, 0, 0, 1000]),
+    }
+}
+
+/// A pattern of the recording with the verdict deadlock, or with the verdict "not", if one is found.
+pub fn pattern_with_verdict(
+    random: &mut Random,
+    recording: &Recording,
+    deadlock: bool,
+) -> Option<Vec<usize>> {
+    let mut found: Vec<Vec<usize>> = Vec::new();
+    let mut looked_at = 0;
+    let mut collect = |pattern: &[usize]| {
+        if is_deadlock(recording, pattern) == deadlock {
+            found.push(pattern.to_vec());
+        }
+        looked_at += 1;
+        found.len() < 100 && looked_at < 2000
+    };
+    let largest = if deadlock || recording.count() < 200 { 16 } else { 3 };
+    let search = Search::new(recording, largest);
+    if deadlock {
+        search.deadlocks(&mut collect);
+    } else {
+        search.patterns(&mut collect);
+    }
+    if random.chance(30) {
+        return found.into_iter().max_by_key(Vec::len);
+    }
+    (!found.is_empty()).then(|| random.pick(&found))
+}
+
+/// A list of event numbers that is a pattern only by chance.
+pub fn false_pattern(random: &mut Random, recording: &Recording) -> Vec<usize> {
+    let n = recording.count();
+    let acquires: Vec<usize> = (1..=n).filter(|&e| recording.is_acquire(e)).collect();
+    let length = random.between(1, 4);
+    if acquires.is_empty() || random.chance(10) {
+        return (0..length).map(|_| random.below(n + 2)).collect();
+    }
+    let ring = cycle(random, recording, &acquires);
+    ring.unwrap_or_else(|| (0..length).map(|_| random.pick(&acquires)).collect())
+}
+
+/// A ring of acquires, each with its lock held by the next, whose tasks and held locks need not
+/// differ; the smallest event is first.
+fn cycle(random: &mut Random, recording: &Recording, acquires: &[usize]) -> Option<Vec<usize>> {
+    let holds = |event: usize, lock: usize| recording.relations(event).held >> lock & 1 == 1;
+    for _ in 0..30 {
+        let mut list = vec![random.pick(acquires)];
+        while list.len() < 5 {
+            let lock = recording.event(list[list.len() - 1]).object;
+            if holds(list[0], lock) {
+                let smallest = (0..list.len()).min_by_key(|&index| list[index])?;
+                list.rotate_left(smallest);
+                return Some(list);
+            }
+            let next: Vec<usize> = acquires.iter().copied().filter(|&e| holds(e, lock)).collect();
+            if next.is_empty() {
+                break;
+            }
+            list.push(random.pick(&next));
+        }
+    }
+    None
+}
+
+/// The bytes of a pattern, changed in one of many ways.
+pub fn changed_pattern(random: &mut Random, pattern: &[usize], recording: &Recording) -> Vec<u8> {
+    let n = recording.count();
+    let mut list = pattern.to_vec();
+    let index = random.below(list.len());
+    match random.below(15) {
+        0..=1 => list.rotate_left(index),
+        2 => list.reverse(),
+        3 => list[index] = random.pick(&[0, n + 1, n + 2, 4096, 65_535]),
+        4 => list[index] = random.between(1, n),
+        5 => list[index] = recording.relations(list[index]).matching,
+        6 => list.truncate(1),
+        7 => list.clear(),
+        8 => list = (0..17).map(|i| pattern[i % pattern.len()]).collect(),
+        9 => list = (1..=17).map(|_| random.between(1, n)).collect(),
+        10 => list.push(random.between(1, n)),
+        11 => drop(list.remove(index)),
+        12 => list.insert(index, pattern[index]),
+        13 => return bytes_from(&list)[1..].to_vec(),
+        _ => return [bytes_from(&list), random.bytes(1)].concat(),
+    }
+    bytes_from(&list)
+}

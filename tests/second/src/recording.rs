@@ -1,0 +1,165 @@
+//! The recording of 01: its events and questions 1 to 7.
+
+use crate::relations::{relations_of, Relations};
+
+/// How many locks there are: "a lock (0 to 63)".
+pub const LOCKS: usize = 64;
+/// How many tasks there are: "task in 4 bits".
+pub const TASKS: usize = 16;
+/// How many variables there are: "a variable (0 to 1,023)".
+pub const VARIABLES: usize = 1024;
+
+/// A question's "no": "A refusal returns its number and the event that caused it".
+#[derive(Clone, Copy, Debug, PartialEq, Eq)]
+pub struct Refusal {
+    pub number: u64,
+    pub event: u64,
+}
+
+impl Refusal {
+    /// 01: "the event that caused it (0 where the question isn't put event by event)".
+    pub fn without_event(number: u64) -> Refusal {
+        Refusal { number, event: 0 }
+    }
+}
+
+#[derive(Clone, Copy, Debug, PartialEq, Eq)]
+pub enum Operation {
+    Read,
+    Write,
+    Acquire,
+    Release,
+}
+
+#[derive(Clone, Copy, Debug, PartialEq, Eq)]
+pub struct Event {
+    pub operation: Operation,
+    pub task: usize,
+    pub object: usize,
+}
+
+impl Event {
+    /// 01: "An event is: operation in 2 bits (0 read, 1 write, 2 acquire, 3 release), task in
+    /// 4 bits, object in 10 bits."
+    pub fn unpack(word: usize) -> Event {
+        let operation = match word >> 14 {
+            0 => Operation::Read,
+            1 => Operation::Write,
+            2 => Operation::Acquire,
+            _ => Operation::Release,
+        };
+        Event { operation, task: (word >> 10) & 15, object: word & 1023 }
+    }
+
+    /// The inverse of `unpack`, 01: "All fields are unsigned and bit-packed, most significant bit
+    /// first."
+    pub fn pack(self) -> usize {
+        (self.operation as usize) << 14 | self.task << 10 | self.object
+    }
+
+    /// 01: "a lock (0 to 63) for acquire and release, a variable (0 to 1,023) for read and write".
+    pub fn uses_lock(self) -> bool {
+        self.operation == Operation::Acquire || self.operation == Operation::Release
+    }
+}
+
+/// 01: "Every two-byte number, in and out, has its high byte first."; an odd last byte is left out.
+pub fn numbers_from(bytes: &[u8]) -> Vec<usize> {
+    let value = |pair: &[u8]| usize::from(pair[0]) * 256 + usize::from(pair[1]);
+    bytes.chunks_exact(2).map(value).collect()
+}
+
+/// 01: "Every two-byte number, in and out, has its high byte first."
+pub fn bytes_from(numbers: &[usize]) -> Vec<u8> {
+    numbers.iter().flat_map(|&number| [(number >> 8) as u8, number as u8]).collect()
+}
+
+/// The bytes of a recording, 01: "The header is two bytes: format in 4 bits (value 1), event count
+/// n in 12 bits (0 to 4,095). Then n events of two bytes".
+pub fn encode(events: &[Event]) -> Vec<u8> {
+    let mut words = vec![1 << 12 | events.len()];
+    words.extend(events.iter().map(|event| event.pack()));
+    bytes_from(&words)
+}
+
+/// A well-formed recording with the relations of its events.
+pub struct Recording {
+    events: Vec<Event>,
+    relations: Vec<Relations>,
+}
+
+impl Recording {
+    /// 01: "A recording without a "no" up to here is well-formed."
+    pub fn read(bytes: &[u8]) -> Result<Recording, Refusal> {
+        let events = ask_about_bytes(bytes)?;
+        ask_event_by_event(&events)?;
+        let relations = relations_of(&events);
+        Ok(Recording { events, relations })
+    }
+
+    /// 01: "event count n in 12 bits (0 to 4,095)".
+    pub fn count(&self) -> usize {
+        self.events.len()
+    }
+
+    /// 01: "Events are numbered from 1".
+    pub fn event(&self, number: usize) -> Event {
+        self.events[number - 1]
+    }
+
+    /// 01: "For one event number: the held locks [...]; the match; the writer; the predecessor."
+    pub fn relations(&self, number: usize) -> &Relations {
+        &self.relations[number - 1]
+    }
+
+    /// 01: "operation in 2 bits (0 read, 1 write, 2 acquire, 3 release)".
+    pub fn is_acquire(&self, number: usize) -> bool {
+        self.event(number).operation == Operation::Acquire
+    }
+}
+
+/// Questions 1 to 3, then the events.
+fn ask_about_bytes(bytes: &[u8]) -> Result<Vec<Event>, Refusal> {
+    if bytes.len() < 2 {
+        return Err(Refusal::without_event(1));
+    }
+    let header = numbers_from(&bytes[..2])[0];
+    if header >> 12 != 1 {
+        return Err(Refusal::without_event(2));
+    }
+    if bytes.len() != 2 + 2 * (header & 4095) {
+        return Err(Refusal::without_event(3));
+    }
+    Ok(numbers_from(&bytes[2..]).into_iter().map(Event::unpack).collect())
+}
+
+/// Questions 4 to 7: "event by event, the earliest failing event deciding".
+fn ask_event_by_event(events: &[Event]) -> Result<(), Refusal> {
+    let mut holder = [None; LOCKS];
+    let mut written = [false; VARIABLES];
+    for (index, &event) in events.iter().enumerate() {
+        if let Some(number) = first_no(event, &holder, &written) {
+            return Err(Refusal { number, event: index as u64 + 1 });
+        }
+        match event.operation {
+            Operation::Read => {}
+            Operation::Write => written[event.object] = true,
+            Operation::Acquire => holder[event.object] = Some(event.task),
+            Operation::Release => holder[event.object] = None,
+        }
+    }
+    Ok(())
+}
+
+/// The first of questions 4 to 7 that is answered "no" for this event.
+fn first_no(event: Event, holder: &[Option<usize>], written: &[bool]) -> Option<u64> {
+    if event.uses_lock() && event.object > 63 {
+        return Some(4);
+    }
+    match event.operation {
+        Operation::Acquire if holder[event.object].is_some() => Some(5),
+        Operation::Release if holder[event.object] != Some(event.task) => Some(6),
+        Operation::Read if !written[event.object] => Some(7),
+        _ => None,
+    }
+}

@@ -1,0 +1,142 @@
+//! Rows A to K of 01, as statements about the calls.
+
+use crate::calls::{check, close, list, load, schedule, verdict, witness, Listed, Witnessed};
+use crate::closure::put_into_set;
+use crate::protocol::hexadecimal;
+use crate::recording::{bytes_from, encode, Event, Operation, Refusal};
+
+/// The rows in 01's notation: "T0 a1 means task 0 acquires lock 1; r releases; W and R write and
+/// read a variable".
+const A: &str = "T0 a0 a1 r1 r0, T1 a1 a0 r0 r1";
+const B: &str = "T0 a2 a0 a1 r1 r0 r2, T1 a2 a1 a0 r0 r1 r2";
+const C: &str = "T0 a0 a1 W0 r1 r0, T1 a1 R0 a0 r0 r1";
+const D: &str = "T0 a0 a1 r1 r0, T1 a0 r0 a1 a0 r0 r1";
+const E: &str = "T0 a0 a1 r1 r0, T1 a1 r1 a1 a0 r0 r1";
+const F: &str = "T0 a0 a1 r1 r0, T2 a2 a0 r0 r2, T1 a1 a2 r2 r1";
+const G: &str = "T0 a0 r0 W0 W0 W0 W0 W0 W0";
+
+/// The names of the rows' statements that fail, 01: "Rows A to K are proved together, from the
+/// definitions, as a single tabulated fact".
+pub fn failing() -> Vec<&'static str> {
+    let statements = [row_a(), row_b_to_d(), row_e(), row_f(), row_g_to_k()].concat();
+    statements.into_iter().filter(|(_, holds)| !holds).map(|(name, _)| name).collect()
+}
+
+type Statements = Vec<(&'static str, bool)>;
+
+fn row_a() -> Statements {
+    let text = "100880008001c001c00084018400c400c401";
+    vec![
+        ("A: in hexadecimal", hexadecimal(&row(A)) == text),
+        ("A: listed", lists(&row(A), 0, &[&[2, 6]])),
+        ("A: verdict", verdict(&row(A), &bytes_from(&[2, 6])) == Ok(true)),
+        ("A: witness", witnesses(&row(A), &[2, 6], &[1, 5])),
+        ("A: load of lock 0", load(&row(A), 0) == Ok(50)),
+    ]
+}
+
+fn row_b_to_d() -> Statements {
+    vec![
+        ("B: empty", lists(&row(B), 0, &[])),
+        ("B: common guard", verdict(&row(B), &bytes_from(&[3, 9])) == Err(Refusal::without_event(10))),
+        ("C: closure", closes(&row(C), &[1, 7], &[1, 2, 3, 4, 6, 7])),
+        ("C: empty", lists(&row(C), 0, &[])),
+        ("D: empty", lists(&row(D), 0, &[])),
+    ]
+}
+
+fn row_e() -> Statements {
+    let (pattern, proposed) = (bytes_from(&[2, 8]), bytes_from(&[1, 5, 6, 7]));
+    vec![
+        ("E: listed", lists(&row(E), 0, &[&[2, 8]])),
+        ("E: witness", witnesses(&row(E), &[2, 8], &[1, 5, 6, 7])),
+        ("E: the checker says yes", schedule(&row(E), &pattern, &proposed) == Ok(true)),
+    ]
+}
+
+fn row_f() -> Statements {
+    vec![
+        ("F: listed with size 3", lists(&row(F), 3, &[&[2, 10, 6]])),
+        ("F: eight bytes", list(&row(F), 3, &mut [7; 8]) == Ok(Listed { patterns: 1, bytes: 8 })),
+        ("F: seven bytes", refuses_unchanged(&row(F), 3, 7)),
+        ("F: size 2 is empty", lists(&row(F), 2, &[])),
+    ]
+}
+
+fn row_g_to_k() -> Statements {
+    let refused = |number, event| Err(Refusal { number, event });
+    vec![
+        ("G: load of lock 0", load(&row(G), 0) == Ok(13)),
+        ("H: accepted", check(&[0x10, 0x00]) == Ok(())),
+        ("H: empty", lists(&[0x10, 0x00], 0, &[])),
+        ("I: 4 at 1", check(&[0x10, 0x01, 0x80, 0x40]) == refused(4, 1)),
+        ("I: accepted", check(&[0x10, 0x01, 0x80, 0x3f]) == Ok(())),
+        ("J: 5 at 2", check(&[0x10, 0x02, 0x80, 0x00, 0x80, 0x00]) == refused(5, 2)),
+        ("K: 7 at 1", check(&[0x10, 0x01, 0x00, 0x00]) == refused(7, 1)),
+        ("K: 3 at 0", check(&[0x10, 0x01]) == refused(3, 0)),
+    ]
+}
+
+/// The bytes of a recording in 01's notation.
+fn row(text: &str) -> Vec<u8> {
+    let mut task = 0;
+    let mut events = Vec::new();
+    for word in text.replace(',', "").split(' ') {
+        let number: usize = word[1..].parse().expect("a number");
+        let mut event = |operation| events.push(Event { operation, task, object: number });
+        match &word[..1] {
+            "a" => event(Operation::Acquire),
+            "r" => event(Operation::Release),
+            "W" => event(Operation::Write),
+            "R" => event(Operation::Read),
+            _ => task = number,
+        }
+    }
+    encode(&events)
+}
+
+/// Whether these patterns are listed, and the bytes after the written ones unchanged.
+fn lists(recording: &[u8], size: u64, patterns: &[&[usize]]) -> bool {
+    let entries = patterns.iter().flat_map(|pattern| [&[pattern.len()], *pattern].concat());
+    let expected = bytes_from(&entries.collect::<Vec<_>>());
+    let mut out = [7; 100];
+    let listed = Listed { patterns: patterns.len() as u64, bytes: expected.len() as u64 };
+    list(recording, size, &mut out) == Ok(listed) && starts_with_only(&out, &expected)
+}
+
+/// Whether these events are the witness of a deadlock.
+fn witnesses(recording: &[u8], pattern: &[usize], events: &[usize]) -> bool {
+    let expected = bytes_from(events);
+    let mut out = [7; 100];
+    let witnessed = Witnessed { deadlock: true, bytes: expected.len() as u64 };
+    witness(recording, &bytes_from(pattern), &mut out) == Ok(witnessed) && starts_with_only(&out, &expected)
+}
+
+fn starts_with_only(out: &[u8], expected: &[u8]) -> bool {
+    out.starts_with(expected) && out[expected.len()..].iter().all(|&byte| byte == 7)
+}
+
+/// Whether the listing into so many bytes is refused with 13 and leaves them as they were.
+fn refuses_unchanged(recording: &[u8], size: u64, room: usize) -> bool {
+    let mut out = vec![7; room];
+    list(recording, size, &mut out) == Err(Refusal::without_event(13)) && starts_with_only(&out, &[])
+}
+
+/// Whether the closure of the first events is the second ones.
+fn closes(recording: &[u8], events: &[usize], closure: &[usize]) -> bool {
+    let set_of = |members: &[usize]| {
+        let mut set = vec![0; (recording.len() / 2 - 1).div_ceil(8)];
+        members.iter().for_each(|&event| put_into_set(&mut set, event));
+        set
+    };
+    let mut set = set_of(events);
+    close(recording, &mut set) == Ok((closure.len() - events.len()) as u64) && set == set_of(closure)
+}
+
+#[cfg(test)]
+mod tests {
+    #[test]
+    fn rows_hold() {
+        assert_eq!(super::failing(), Vec::<&str>::new());
+    }
+}
