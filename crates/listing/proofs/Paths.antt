@@ -1,5 +1,4 @@
--- The path of the search and its chain: one event more, and a path that is kept up to a length. Assumes
--- nothing.
+-- The path of the search and its chain: one event more, and a path that is kept up to a length. Assumes nothing.
 use Prim.Native.Nat.{ℕ, suc, _+_, _-_, _^_, _≤_, _<_}
 use mathlib.Core.Path.{_≡_, sym, ap, _∙_}
 use mathlib.Core.Logic.{_≢_}
@@ -72,9 +71,9 @@ module _ (path : List ℕ) (len e : ℕ) (inside : len < length path) where
       newest = let q : len + 1 - 1 ≡ len = omega arith in rw q (getD-set-same path len e 0 inside)
 
 -- Fewer events more.
-pub returning-fewer : (σ : Trace) (a m n : ℕ) (back : List ℕ) → n ≤ m → Returning σ a m back
+pub returning-fewer : {σ : Trace} {a m n : ℕ} {back : List ℕ} → n ≤ m → Returning σ a m back
     → Returning σ a n back
-returning-fewer σ a m n back l z = record {
+returning-fewer l z = record {
   long = z .long;
   complete = z .complete;
   covers = λ i h. z .covers i (omega arith);
@@ -83,7 +82,7 @@ returning-fewer σ a m n back l z = record {
 
 -- ---- what comes of an event after a chain
 
-module _ (σ : Trace) (path : List ℕ) (len k tasks guards e met : ℕ) (front latest : List ℕ)
+module _ {σ : Trace} {path : List ℕ} {len k tasks guards e met : ℕ} {front latest : List ℕ}
     (z : Descending σ path len k tasks guards e met front latest) where
   -- An event that fits is an acquire.
   pub follows-acquire : T (isAcquire σ e)
@@ -96,7 +95,7 @@ module _ (σ : Trace) (path : List ℕ) (len k tasks guards e met : ℕ) (front 
       → Adds room (branch σ k (chainAt path len tasks guards) e) out out f f
   descend-dropped d room out f = rw (z .dropped d) (adds-none room out f)
 
-  module _ (taken : met ≡ 0) (back : List ℕ) (b : Returning σ (getD path 0 0) (suc k) back) where
+  module _ (taken : met ≡ 0) {back : List ℕ} (b : Returning σ (getD path 0 0) (suc k) back) where
     -- Where it completes the chain, the pattern.
     pub descend-completes : hasBit (getD back 0 0) (object σ e) ≡ true
         → branch σ k (chainAt path len tasks guards) e ≡ take (len + 1) (set path len e) ∷ []

@@ -41,25 +41,28 @@ pub record Scanning (σ : Trace) (k : ℕ) (c : Chain) (room excluded e : ℕ) (
   pub adds : Adds room (each (branch σ k c) (from (suc (c .first)) (upTo (length σ) e - suc (c .first))))
       out₀ out f₀ f
 
--- An event that passes is an acquire.
-pub passes-acquire : (σ : Trace) (c : Chain) (excluded e : ℕ) → T (passes σ c excluded e) → T (isAcquire σ e)
-passes-acquire σ c excluded e t = let s = simp and-iff at t in s .0 .0 .0
+-- The event is an acquire.
+pub scanning-acquire : {σ : Trace} {k : ℕ} {c : Chain} {room excluded e : ℕ} {out₀ out : List ℕ} {f₀ f : Found}
+    → Scanning σ k c room excluded e out₀ out f₀ f → e ≢ 0 → T (isAcquire σ e)
+scanning-acquire {σ} {k} {c} {room} {excluded} {e} z d =
+    let t : T (passes σ c excluded e) = z .event d .2 in
+    let s = simp and-iff at t in s .0 .0 .0
 
 -- It fits.
-pub scanning-fits : (σ : Trace) (k : ℕ) (c : Chain) (room excluded e : ℕ) (out₀ out : List ℕ) (f₀ f : Found)
+pub scanning-fits : {σ : Trace} {k : ℕ} {c : Chain} {room excluded e : ℕ} {out₀ out : List ℕ} {f₀ f : Found}
     → Scanning σ k c room excluded e out₀ out f₀ f → e ≢ 0 → fits (signature σ) c e ≡ true
-scanning-fits σ k c room excluded e out₀ out f₀ f z d =
+scanning-fits {σ} {k} {c} {room} {excluded} {e} z d =
     let t : T (passes σ c excluded e) = z .event d .2 in
     let s = simp and-iff at t in
     let new = not-mono (hasBit excluded (task σ e)) (hasBit (c .tasks) (task σ e)) (z .covers (task σ e))
     (s .0 .1) in
     is-true (fits (signature σ) c e) (simp and-iff (((s .0 .0 .0, s .0 .0 .1), new), s .1))
 
-module _ (σ : Trace) (k : ℕ) (c : Chain) (inside : c .first ≤ length σ) (room : ℕ) where
+module _ {σ : Trace} {k : ℕ} {c : Chain} (inside : c .first ≤ length σ) {room : ℕ} where
   -- At first only the chain's own tasks are excluded.
-  pub scanning-start : (e : ℕ) → First (passes σ c (c .tasks)) (length σ) (c .first) e → (out : List ℕ)
-      (f : Found) → Roomy room f → f .full ≡ false → Scanning σ k c room (c .tasks) e out out f f
-  scanning-start e z out f r n = record {
+  pub scanning-start : {e : ℕ} → First (passes σ c (c .tasks)) (length σ) (c .first) e → {out : List ℕ}
+      {f : Found} → Roomy room f → f .full ≡ false → Scanning σ k c room (c .tasks) e out out f f
+  scanning-start {e} z {out} {f} r n = record {
     covers = λ l t. t;
     event = z .passes;
     passed = λ j g h i. branch-unfit σ k c g;
@@ -70,13 +73,12 @@ module _ (σ : Trace) (k : ℕ) (c : Chain) (inside : c .first ≤ length σ) (r
         branch-unfit σ k c g)) (adds-none room out f);
   }
 
-  module _ (excluded e : ℕ) (out₀ out out′ : List ℕ) (f₀ f f′ : Found)
+  module _ {excluded e : ℕ} {out₀ out out′ : List ℕ} {f₀ f f′ : Found}
       (z : Scanning σ k c room excluded e out₀ out f₀ f) (d : e ≢ 0)
       (a : Adds room (branch σ k c e) out out′ f f′) where
     -- What was taken with event e.
     taken : Adds room (each (branch σ k c) (from (suc (c .first)) (e - suc (c .first))) ++ branch σ k c e)
-        out₀
-        out′ f₀ f′
+        out₀ out′ f₀ f′
     taken = adds-trans room _ (branch σ k c e) out₀ out out′ f₀ f f′ (rw (ne-eqb e 0 d) at (z .adds)) a
 
     -- All extensions are what events before e add, what e adds, and the rest.
@@ -104,12 +106,12 @@ module _ (σ : Trace) (k : ℕ) (c : Chain) (inside : c .first ≤ length σ) (r
     scanning-over y = rw whole (adds-over room _ _ out₀ out′ f₀ f′ taken y)
 
     -- The next event.
-    pub scanning-next : (p : List ℕ) (met : ℕ) (grown newest : List ℕ) → Along σ p (c .first) c
-        → Attempted σ k p (c .first) e met grown newest → (excluded′ x : ℕ)
+    pub scanning-next : {p : List ℕ} {met : ℕ} {grown newest : List ℕ} → Along σ p (c .first) c
+        → Attempted σ k p (c .first) e met grown newest → {excluded′ x : ℕ}
         → excluded′ ≡ cond (eqb met 2) (bitOr excluded (2 ^ (task σ e))) excluded
         → First (passes σ c excluded′) (length σ) e x → Roomy room f′ → f′ .full ≡ false
         → Scanning σ k c room excluded′ x out₀ out′ f₀ f′
-    scanning-next p met grown newest along t excluded′ x q y r n = record {
+    scanning-next {met} along t {excluded′} {x} q y r n = record {
       covers = λ l s. wider l (z .covers l s);
       event = λ i. (omega (arith, y .passes i .0, z .event d .0), y .passes i .1, y .passes i .2);
       passed = λ j g h. rest g (omega (arith, y .passes j .0));
@@ -141,9 +143,9 @@ module _ (σ : Trace) (k : ℕ) (c : Chain) (inside : c .first ≤ length σ) (r
             (λ u. z .passed d g h i (rw (q, u) at m))
 
   -- At the end.
-  pub scanning-end : (excluded e : ℕ) (out₀ out : List ℕ) (f₀ f : Found)
-      → Scanning σ k c room excluded e out₀ out f₀ f → e ≡ 0 → Adds room (extensions σ (suc k) c) out₀ out f₀
-      f
-  scanning-end excluded e out₀ out f₀ f z q =
+  pub scanning-end : {excluded e : ℕ} {out₀ out : List ℕ} {f₀ f : Found}
+      → Scanning σ k c room excluded e out₀ out f₀ f → e ≡ 0
+      → Adds room (extensions σ (suc k) c) out₀ out f₀ f
+  scanning-end z q =
       let size : length σ - c .first ≡ suc (length σ) - suc (c .first) = omega arith in
       rw (extensions-suc σ k c, size) (rw q at (z .adds))

@@ -63,21 +63,19 @@ extend-requires c κs =
           .path .now) (s .args .a) (s .pre .6)
           (s .args .largest) _ _ (event .0) (event .1) (s .pre .3) (s .pre .5) (s .pre .4) before),
       omega (arith, s .pre .4),
-      rw (getD-set-same (s .args .path .now) 0 (s .args .a) 0 (omega (arith, s .pre .6))) (returning-fewer
-          (decodeAll b) _ _ _ (s .args .back .now)
-          (omega arith) (s .pre .7)),
+      rw (getD-set-same (s .args .path .now) 0 (s .args .a) 0 (omega (arith, s .pre .6)))
+          (returning-fewer (omega arith) (s .pre .7)),
       s .pre .8,
       s .pre .9,
     )
 
 same-length : tie.Need-same-length
 same-length c =
-    c .before .before .before .before .extend .kept .1 .1 .1 .1 .1 .1 .1 .1 .0 ∙ length-set (c .before
-    .before .before .before .before .before .before .before .before .before .before .before .before
-    .before .before .before .before .before .before .before .before .before .before .before .before
-    .before .args .path .now) 0 (c .before .before .before .before .before .before .before .before
-    .before .before .before .before .before .before .before .before .before .before .before .before
-    .before .before .before .before .before .before .args .a)
+    let s = c .before .before .before .before .before .before .before .before .before .before .before .before
+    .before .before .before .before .before .before .before .before .before .before .before .before .before
+    .before in
+    c .before .before .before .before .extend .kept .1 .1 .1 .1 .1 .1 .1 .1 .0
+    ∙ length-set (s .args .path .now) 0 (s .args .a)
 
 same-length-2 : tie.Need-same-length-2
 same-length-2 c = search needs
