@@ -1,13 +1,13 @@
 -- A refusal's number and event are small, and the numbers that the entries return. Assumes nothing.
 use Prim.Native.Nat.{ℕ, _+_, _-_, _*_, _/_, _≤_, _<_}
-use mathlib.Core.Path.{_≡_, sym, subst, _∙_}
+use mathlib.Core.Path.{_≡_, refl, sym, _∙_}
 use mathlib.Core.Logic.{_≢_, ⊎-elim}
 use mathlib.Core.Bool.{Bool, true, false, cond, not, _&&_, _||_}
 use mathlib.Core.List.{List}
 use native.Mathlib.Omega.{arith}
-use lib.Dec.{T, eqb, leb, ltb}
+use lib.Dec.{eqb, leb, ltb}
 use lib.ListN.{length, getD, drop, length-drop}
-use borrow.Author.Tests.{eq-eqb}
+use borrow.Author.Tests.{eqb-false}
 use Rattle.model.specs.declared.Outcome.{Outcome}
 use Rattle.model.specs.Recording.{format, eventCount, trace}
 use Rattle.model.specs.WellFormed.{isFree, fault, firstFault}
@@ -25,7 +25,6 @@ use Rattle.laws.proofs.Tests.{cond-elim, decided, equal?, at-most?}
 use Rattle.laws.proofs.Trace.{decodeAll-length}
 use Rattle.laws.proofs.Searches.{firstFrom-earliest}
 use Rattle.laws.proofs.Questions.{check-short, check-format, check-length, check-events}
-use Rattle.laws.proofs.Calls.{list-refusal}
 
 -- ---- refusals are small
 
@@ -115,46 +114,51 @@ verdict-small b p h =
 
 -- ---- the numbers returned
 
+-- An answer's refusal and event are those of an outcome, and 0 where this accepts.
+pub record Carries (o : Outcome) (refusal event : ℕ) : Type 0 where
+  pub accepted : isAccepted o ≡ true → (refusal ≡ 0) × (event ≡ 0)
+  pub refused : isAccepted o ≡ false → (refusal ≡ o .refusal) × (event ≡ o .event)
+
+module _ {o : Outcome} {refusal event : ℕ} (z : Carries o refusal event) where
+  -- They fit an entry's number,
+  pub carries-bounds : Small o → (refusal < 65536) × (event < 65536)
+  carries-bounds s =
+      decided (isAccepted o)
+      (λ y. (omega (arith, z .accepted y .0), omega (arith, z .accepted y .1)))
+      (λ n. (omega (arith, s .refusal-le, z .refused n .0), omega (arith, s .event-le, z .refused n .1)))
+
+  -- which is odd for a refusal,
+  pub carries-refused : refusal ≢ 0 → (n : ℕ) → 2 * (65536 * refusal + event) + 1 ≡ entryNumber o n
+  unfolding entryNumber
+  carries-refused d n =
+      decided (isAccepted o) (λ y. absurd (d (z .accepted y .0)))
+      (λ w. rw (z .refused w .0, z .refused w .1, w))
+
+  -- and is otherwise the call's.
+  pub carries-accepted : refusal ≡ 0 → (n : ℕ) → n ≡ entryNumber o n
+  unfolding entryNumber
+  carries-accepted q n =
+      decided (isAccepted o) (λ y. rw y)
+      (λ w. absurd (eqb-false (o .refusal) 0 w (sym (z .refused w .0) ∙ q)))
+
 module _ (b : List ℕ) (k room : ℕ) where
-  -- The listing's refusal fits an entry's number,
-  pub list-bounds : getD b 1 0 < 256 → (list b k room .refusal < 65536) × (list b k room .event < 65536)
+  -- The listing carries its refusal,
+  pub list-carries : Carries (listRefusal b k room) (list b k room .refusal) (list b k room .event)
   unfolding list
-  list-bounds h =
-      let s = list-small b k room h in
-      decided (isAccepted (listRefusal b k room)) (λ y. rw y (omega arith, omega arith))
-      (λ n. rw n (omega (arith, s .refusal-le), omega (arith, s .event-le)))
+  list-carries = record { accepted = λ y. rw y (refl, refl); refused = λ n. rw n (refl, refl) }
 
-  -- which is odd for it,
-  pub list-refused : list b k room .refusal ≢ 0
-      → 2 * (65536 * list b k room .refusal + list b k room .event) + 1 ≡ listEntry b k room
-  unfolding list listEntry entryNumber
-  list-refused d =
-      decided (isAccepted (listRefusal b k room)) (λ y. absurd (d (rw y))) (λ n. rw n)
-
-  -- and is otherwise that of the bytes written.
-  pub list-bytes : list b k room .refusal ≡ 0 → list b k room .bytes ≡ listEntry b k room
-  unfolding listEntry entryNumber
-  list-bytes q = rw (eq-eqb (listRefusal b k room .refusal) 0 (sym (list-refusal b k room) ∙ q))
+  -- and its number is that of the bytes written.
+  pub list-entry : entryNumber (listRefusal b k room) (list b k room .bytes) ≡ listEntry b k room
+  unfolding listEntry
+  list-entry = refl
 
 module _ (b p : List ℕ) where
-  -- The verdict's refusal fits an entry's number,
-  pub verdict-bounds : getD b 1 0 < 256 → (verdict b p .refusal < 65536) × (verdict b p .event < 65536)
+  -- The verdict carries its refusal,
+  pub verdict-carries : Carries (verdictRefusal b p) (verdict b p .refusal) (verdict b p .event)
   unfolding verdict
-  verdict-bounds h =
-      let s = verdict-small b p h in
-      decided (isAccepted (verdictRefusal b p)) (λ y. rw y (omega arith, omega arith))
-      (λ n. rw n (omega (arith, s .refusal-le), omega (arith, s .event-le)))
+  verdict-carries = record { accepted = λ y. rw y (refl, refl); refused = λ n. rw n (refl, refl) }
 
-  -- which is odd for it,
-  pub verdict-refused : verdict b p .refusal ≢ 0
-      → 2 * (65536 * verdict b p .refusal + verdict b p .event) + 1 ≡ verdictEntry b p
-  unfolding verdict verdictEntry entryNumber
-  verdict-refused d =
-      decided (isAccepted (verdictRefusal b p)) (λ y. absurd (d (rw y))) (λ n. rw n)
-
-  -- and otherwise 2 or 0.
-  pub verdict-number : verdict b p .refusal ≡ 0 → cond (verdict b p .deadlock) 2 0 ≡ verdictEntry b p
-  unfolding verdict verdictEntry entryNumber
-  verdict-number q =
-      decided (isAccepted (verdictRefusal b p)) (λ y. rw y)
-      (λ n. absurd (subst T (sym (eq-eqb (verdictRefusal b p .refusal) 0 (rw n at q)) ∙ n) tt))
+  -- and its number is 2 or 0.
+  pub verdict-entry : entryNumber (verdictRefusal b p) (cond (verdict b p .deadlock) 2 0) ≡ verdictEntry b p
+  unfolding verdictEntry
+  verdict-entry = refl

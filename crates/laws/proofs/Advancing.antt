@@ -52,10 +52,6 @@ module _ (σ : Trace) (ok : WellFormed σ) (front want latest : List ℕ) (t old
   cases : (e : ℕ) → Visited σ front t old (predecessor σ f) e → Visited σ front t old f e ⊎ (e ≡ f)
   cases = visited-step σ front t old f is-task
 
-  -- Event f has not been visited.
-  unvisited : Visited σ front t old f f → ⊥
-  unvisited v = omega (arith, v .passed is-task (omega arith))
-
   -- ---- an event that is no acquire
 
   -- What its writer asks for is wanted.

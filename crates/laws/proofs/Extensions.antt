@@ -67,12 +67,7 @@ module _ (σ : Trace) where
 
   -- ---- events that hold no lock
 
-  -- They add nothing.
-  pub branch-unheld : (k : ℕ) (c : Chain) (e : ℕ) → held σ e ≡ 0 → branch σ k c e ≡ []
-  branch-unheld k c e h = branch-unfit k c e (decided (isAcquire σ e)
-      (λ a. rw (a, h, hasBit-none (object σ (c .last)))) (λ a. rw a))
-
-  -- Nor does a chain that begins with one close.
+  -- A chain that begins with one does not close.
   pub extensions-unheld : (k : ℕ) (c : Chain) → held σ (c .first) ≡ 0 → extensions σ k c ≡ []
   extensions-unheld zero c h = extensions-zero c
   extensions-unheld (suc k) c h =

@@ -98,11 +98,11 @@ beginning-free σ k e n =
     decided (isAcquire σ e) (λ y. beginning-unheld σ k e (acquire-free σ e (rw y tt) n)) (beginning-none σ k
     e)
 
-module _ (σ : Trace) (k room : ℕ) where
+module _ {σ : Trace} {k room : ℕ} where
   -- At first nothing is taken.
-  pub searching-start : (a : ℕ) → Link σ 0 a → (out : List ℕ) (f : Found) → Roomy room f → f .patterns ≡ 0
+  pub searching-start : {a : ℕ} → Link σ 0 a → {out : List ℕ} {f : Found} → Roomy room f → f .patterns ≡ 0
       → f .bytes ≡ 0 → f .full ≡ false → Searching σ k room a out out f
-  searching-start a z out f r p b n = record {
+  searching-start {a} z {out} {f} r p b n = record {
     event = λ d. let y = z .passes d in (omega (arith, y .0), y .1, nested-acquire σ a (y .2));
     roomy = r;
     unfilled = n;
@@ -110,15 +110,15 @@ module _ (σ : Trace) (k room : ℕ) where
         beginning-free σ k e)) (taken-start room out f p b n);
   }
 
-  module _ (a : ℕ) (out₀ out out′ : List ℕ) (f f′ : Found) (z : Searching σ k room a out₀ out f) (d : a ≢ 0)
+  module _ {a : ℕ} {out₀ out out′ : List ℕ} {f f′ : Found} (z : Searching σ k room a out₀ out f) (d : a ≢ 0)
       (y : Adds room (beginning σ k a) out out′ f f′) where
     more : Taken room (each (beginning σ k) (from 1 (a - 1)) ++ beginning σ k a) out₀ out′ f′
     more = y .adds _ out₀ (rw (ne-eqb a 0 d) at (z .taken))
 
     -- The next event.
-    pub searching-next : (x : ℕ) → Link σ a x → Roomy room f′ → f′ .full ≡ false
+    pub searching-next : {x : ℕ} → Link σ a x → Roomy room f′ → f′ .full ≡ false
         → Searching σ k room x out₀ out′ f′
-    searching-next x l r n = record {
+    searching-next {x} l r n = record {
       event = λ i. let u = l .passes i in (omega (arith, u .0), u .1, nested-acquire σ x (u .2));
       roomy = r;
       unfilled = n;
@@ -149,8 +149,8 @@ module _ (σ : Trace) (k room : ℕ) where
             )
 
   -- At the end all is taken.
-  pub searching-end : (a : ℕ) (out₀ out : List ℕ) (f : Found) → Searching σ k room a out₀ out f → a ≡ 0
+  pub searching-end : {a : ℕ} {out₀ out : List ℕ} {f : Found} → Searching σ k room a out₀ out f → a ≡ 0
       → suc k ≤ largestPattern → Taken room (deadlocks σ (suc k)) out₀ out f
-  searching-end a out₀ out f z q l =
+  searching-end z q l =
       let n : length σ ≡ suc (length σ) - 1 = omega arith in
       rw (deadlocks-beginning σ k l, n) (rw q at (z .taken))

@@ -31,33 +31,23 @@ slice-aggregate-note-leads c = search needs
 note-leads-requires : tie.Need-note-leads-requires Inv-loop μ-loop
 note-leads-requires c κs =
     let s = c .before .before .before .before .before .before .before .before .before in
-    let b = s .args .records .now in
     (omega arith, s .pre .0 .short, s .pre .0 .accepted, s .pre .0 .holds, s .pre .0 .linked, refl)
 
 shared-slice-read-a : tie.Need-shared-slice-read-a Inv-loop μ-loop
-shared-slice-read-a c =
-    let s = c .before .before .before .before .before .before .before .before .before .before .before .before
-    in
-    let b = s .args .records .now in
-    omega (arith, s .pre .0 .linked .long)
+shared-slice-read-a c = let s = c .before .before .before .before .before .before .before .before .before
+    .before .before .before in omega (arith, s .pre .0 .linked .long)
 
 cast-a : tie.Need-cast-a Inv-loop μ-loop
-cast-a c =
-    let s = c .before .before .before .before .before .before .before .before .before .before .before .before
-    in
-    let b = s .args .records .now in
-    omega (arith, c .shared-slice-known8 .given 0)
+cast-a c = omega (arith, c .shared-slice-known8 .given 0)
 
 loop-holds : tie.Need-loop-holds Inv-loop μ-loop
 loop-holds c =
-    let s = c .before .before .before .before .before .before .before .before .before .before .before .before
-    in
-    let b = s .args .records .now in (
+    let s = c .before .before .before .before .before .before .before .before .before .before .before
+    .before in (
       refl,
       refl,
-      searching-start (decodeAll b) (s .args .largest - 1) (s .args .room) _ (s .pre .0 .linked .link 0
-          (omega arith))
-          (s .args .out .now) _ (record { bytes-le = omega arith; patterns-le = omega arith }) refl refl refl,
+      searching-start (s .pre .0 .linked .link 0 (omega arith))
+          (record { bytes-le = omega arith; patterns-le = omega arith }) refl refl refl,
     )
 
 slice-aggregate-search-first : tie.Need-slice-aggregate-search-first Inv-loop μ-loop
@@ -68,16 +58,14 @@ slice-aggregate-search-first-2 c = search needs
 
 search-first-requires : tie.Need-search-first-requires Inv-loop μ-loop
 search-first-requires c κs =
-    let s = c .before .before .before .before .before .before .before .before .before .before .before .before
-    .before .before .before .before .before in
-    let b = s .args .records .now in
+    let s = c .before .before .before .before .before .before .before .before .before .before .before
+    .before .before .before .before .before .before in
     let l = c .before .before .before .before .loop in
-    let d = c .before .before .before .loop-test .taken in
-    let e = l .inv .2 .event d in (
+    let e = l .inv .2 .event (c .before .before .before .loop-test .taken) in (
       s .pre .0,
       c .before .before .before .before .before .before .before .note-leads .ensures,
       e .0,
-      omega (arith, e .1, decodeAll-length b),
+      omega (arith, e .1, decodeAll-length (s .args .records .now)),
       e .2,
       s .pre .1,
       s .pre .2,
@@ -87,78 +75,68 @@ search-first-requires c κs =
     )
 
 same-length : tie.Need-same-length Inv-loop μ-loop
-same-length c = c .before .before .before .before .search-first .kept .1 .1 .1 .1 .1 .1 .1 .1 .1 .1 .1 .0 ∙ c
-    .before .before .before .before .before .before .before .before .before .loop .inv .1
+same-length c = c .before .before .before .before .search-first .kept .1 .1 .1 .1 .1 .1 .1 .1 .1 .1 .1 .0 ∙
+    c .before .before .before .before .before .before .before .before .before .loop .inv .1
 
 returns : tie.Need-returns Inv-loop μ-loop
 returns c =
-    let s = c .before .before .before .before .before .before .before .before .before .before .before .before
-    .before .before .before .before .before .before .before .before .before .before in
-    let b = s .args .records .now in
+    let s = c .before .before .before .before .before .before .before .before .before .before .before
+    .before .before .before .before .before .before .before .before .before .before .before in
     let l = c .before .before .before .before .before .before .before .before .before .loop in
-    let d = c .before .before .before .before .before .before .before .before .loop-test .taken in
     let done = c .before .before .before .before .search-first .ensures in
     let size : s .args .largest ≡ suc (s .args .largest - 1) = omega (arith, s .pre .1) in (
       done .0,
-      rw size (searching-over (decodeAll b) (s .args .largest - 1) (s .args .room) (l .a) _ _ _ _ _ (l .inv
-          .2) d (done .1)
+      rw size (searching-over (l .inv .2) (c .before .before .before .before .before .before .before .before
+          .loop-test .taken) (done .1)
           (omega (arith, s .pre .1, s .pre .2)) (c .if1 .taken)),
     )
 
 mul-a : tie.Need-mul-a Inv-loop μ-loop
 mul-a c =
-    let s = c .before .before .before .before .before .before .before .before .before .before .before .before
-    .before .before .before .before .before .before .before .before .before .before in
-    let b = s .args .records .now in
-    let l = c .before .before .before .before .before .before .before .before .before .loop in
-    let d = c .before .before .before .before .before .before .before .before .loop-test .taken in
-    let e = l .inv .2 .event d in
-    omega (arith, e .1, decodeAll-length b, s .pre .0 .short)
+    let s = c .before .before .before .before .before .before .before .before .before .before .before
+    .before .before .before .before .before .before .before .before .before .before .before in
+    let e = c .before .before .before .before .before .before .before .before .before .loop .inv .2 .event
+    (c .before .before .before .before .before .before .before .before .loop-test .taken) in
+    omega (arith, e .1, decodeAll-length (s .args .records .now), s .pre .0 .short)
 
 shared-slice-read-a-2 : tie.Need-shared-slice-read-a-2 Inv-loop μ-loop
 shared-slice-read-a-2 c =
-    let s = c .before .before .before .before .before .before .before .before .before .before .before .before
-    .before .before .before .before .before .before .before .before .before .before .before in
-    let b = s .args .records .now in
-    let l = c .before .before .before .before .before .before .before .before .before .before .loop in
-    let d = c .before .before .before .before .before .before .before .before .before .loop-test .taken in
-    let e = l .inv .2 .event d in
-    omega (arith, e .1, decodeAll-length b, s .pre .0 .short, s .pre .0 .linked .long)
+    let s = c .before .before .before .before .before .before .before .before .before .before .before
+    .before .before .before .before .before .before .before .before .before .before .before .before in
+    let e = c .before .before .before .before .before .before .before .before .before .before .loop .inv .2
+    .event (c .before .before .before .before .before .before .before .before .before .loop-test .taken)
+    in
+    omega (arith, e .1, decodeAll-length (s .args .records .now), s .pre .0 .short, s .pre .0 .linked .long)
 
 cast-a-2 : tie.Need-cast-a-2 Inv-loop μ-loop
-cast-a-2 c =
-    let s = c .before .before .before .before .before .before .before .before .before .before .before .before
-    .before .before .before .before .before .before .before .before .before .before .before in
-    let b = s .args .records .now in
-    let l = c .before .before .before .before .before .before .before .before .before .before .loop in
-    let d = c .before .before .before .before .before .before .before .before .before .loop-test .taken in
-    omega (arith, c .shared-slice-known9 .given (l .a))
+cast-a-2 c = omega (
+  arith,
+  c .shared-slice-known9 .given (c .before .before .before .before .before .before
+      .before .before .before .before .loop .a),
+)
 
 loop-less : tie.Need-loop-less Inv-loop μ-loop
 loop-less c =
-    let s = c .before .before .before .before .before .before .before .before .before .before .before .before
-    .before .before .before .before .before .before .before .before .before .before .before in
-    let b = s .args .records .now in
+    let s = c .before .before .before .before .before .before .before .before .before .before .before
+    .before .before .before .before .before .before .before .before .before .before .before .before in
     let l = c .before .before .before .before .before .before .before .before .before .before .loop in
     let d = c .before .before .before .before .before .before .before .before .before .loop-test .taken in
     let e = l .inv .2 .event d in
-    toVisit-falls (isNested (decodeAll b)) _ (l .a) _ (s .pre .0 .linked .link (l .a) (e .1)) d (e .1)
+    toVisit-falls (isNested (decodeAll (s .args .records .now))) _ (l .a) _
+    (s .pre .0 .linked .link (l .a) (e .1)) d (e .1)
 
 loop-again : tie.Need-loop-again Inv-loop μ-loop
 loop-again c =
-    let s = c .before .before .before .before .before .before .before .before .before .before .before .before
-    .before .before .before .before .before .before .before .before .before .before .before in
-    let b = s .args .records .now in
+    let s = c .before .before .before .before .before .before .before .before .before .before .before
+    .before .before .before .before .before .before .before .before .before .before .before .before in
     let l = c .before .before .before .before .before .before .before .before .before .before .loop in
     let d = c .before .before .before .before .before .before .before .before .before .loop-test .taken in
-    let e = l .inv .2 .event d in
     let done = c .before .before .before .before .before .search-first .ensures in (
       c .before .before .before .before .before .search-first .kept .1 .1 .1 .1 .1 .1 .1 .1 .0 ∙ l .inv .0,
       c .before .before .before .before .before .search-first .kept .1 .1 .1 .1 .1 .1 .1 .1 .1 .1 .1 .0 ∙ l
           .inv .1,
-      searching-next (decodeAll b) (s .args .largest - 1) (s .args .room) (l .a) _ _ _ _ _ (l .inv .2) d
-          (done .1) _
-          (s .pre .0 .linked .link (l .a) (e .1)) (done .0) (c .before .if1 .left),
+      searching-next (l .inv .2) d (done .1) (s .pre .0 .linked .link (l .a) (l .inv .2 .event d .1))
+          (done .0) (c .before .if1 .left),
     )
 
 same-length-2 : tie.Need-same-length-2 Inv-loop μ-loop
@@ -166,15 +144,12 @@ same-length-2 c = c .before .loop .inv .1
 
 returns-2 : tie.Need-returns-2 Inv-loop μ-loop
 returns-2 c =
-    let s = c .before .before .before .before .before .before .before .before .before .before .before .before
-    .before .before in
-    let b = s .args .records .now in
+    let s = c .before .before .before .before .before .before .before .before .before .before .before
+    .before .before .before in
     let l = c .before .loop in
     let q : s .args .largest ≡ suc (s .args .largest - 1) = omega (arith, s .pre .1) in (
       l .inv .2 .roomy,
-      rw q (searching-end (decodeAll b) (s .args .largest - 1) (s .args .room) (l .a) _ _ _ (l .inv .2) (c
-          .loop-test .left)
-          (omega (arith, s .pre .1, s .pre .2))),
+      rw q (searching-end (l .inv .2) (c .loop-test .left) (omega (arith, s .pre .1, s .pre .2))),
     )
 
 pub search-spec : {M : Type 1} → statement M
