@@ -18,17 +18,15 @@ pub record Along (σ : Trace) (p : List ℕ) (first : ℕ) (c : Chain) : Type 0 
   pub rooted : Rooted σ c
 
 -- The frontiers from which that of the predecessors of p and e may be reached: that of p, and where `of` is
--- the
--- task of e that of p and an earlier event of this task.
+-- the task of e that of p and an earlier event of this task.
 pub record Reusable (σ : Trace) (p : List ℕ) (of e : ℕ) (front latest grown newest : List ℕ) : Type 0 where
   pub before : Before σ p front latest
   pub again : task σ e ≡ of
       → (d : ℕ) × (1 ≤ d) × (d < e) × (task σ d ≡ task σ e) × Before σ (p ++ d ∷ []) grown newest
 
 -- Event e after the events p: 0 where they make a deadlock so far; otherwise e adds nothing, and where it is
--- 2 no
--- later event of its task does. The frontier is that of their predecessors, but for 3, which was decided
--- before.
+-- 2 no later event of its task does. The frontier is that of their predecessors, but for 3, which was
+-- decided before.
 pub record Attempted (σ : Trace) (k : ℕ) (p : List ℕ) (first e r : ℕ) (grown newest : List ℕ) : Type 0 where
   pub deadlock : r ≡ 0 → isDeadlock σ (p ++ e ∷ []) ≡ true
   pub grows : r ≢ 3 → Before σ (p ++ e ∷ []) grown newest

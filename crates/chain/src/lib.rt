@@ -42,8 +42,7 @@ fn renew(
 }
 
 // The frontier of the predecessors of some events and e: from that of the events, or where `of` is the task
-// of e
-// from that of the events and an earlier one of this task.
+// of e from that of the events and an earlier one of this task.
 pub fn grow(
     records: &[u8],
     predecessors: &[u16],
@@ -65,7 +64,8 @@ pub fn grow(
     ensures { λ r. ⌜ ((p : List ℕ) → T (all (isEvent (decodeAll (now (records .entry)))) p)
         → Reusable (decodeAll (now (records .entry))) p of e (now (front .entry)) (now (latest .entry))
         (now (grown .entry)) (now (newest .entry))
-        → Before (decodeAll (now (records .entry))) (p ++ e ∷ []) (now (grown .exit)) (now (newest .exit))) ⌝ }
+        → Before (decodeAll (now (records .entry))) (p ++ e ∷ [])
+        (now (grown .exit)) (now (newest .exit))) ⌝ }
 {
     renew(records, front, latest, grown, newest, of, e);
     let mut want = *grown;
@@ -157,8 +157,8 @@ pub fn attempt(
 // The tasks whose later events are passed over, after event e was attempted.
 pub fn exclude(records: &[u8], excluded: u64, met: u64, e: usize) -> u64
     requires { ⌜ (1 ≤ e) × (2 * e ≤ length (now records)) ⌝ }
-    ensures { λ r. ⌜ r ≡ cond (eqb met 2) (bitOr excluded (2 ^ (task (decodeAll (now (records .entry))) e)))
-        excluded ⌝ }
+    ensures { λ r. ⌜ r ≡ cond (eqb met 2)
+        (bitOr excluded (2 ^ (task (decodeAll (now (records .entry))) e))) excluded ⌝ }
 {
     if met != 2 {
         return excluded;
@@ -182,8 +182,8 @@ pub fn completes(records: &[u8], back: &[u64], e: usize) -> bool
     requires { ⌜ (1 ≤ e) × (2 * e ≤ length (now records))
         × (checkEvents (decodeAll (now records)) .refusal ≡ 0) × (length (now back) ≡ largestPattern)
         × T (isAcquire (decodeAll (now records)) e) ⌝ }
-    ensures { λ r. ⌜ r ≡ hasBit (getD (now (back .entry)) 0 0) (object (decodeAll (now (records .entry))) e)
-        ⌝ }
+    ensures { λ r. ⌜ r ≡ hasBit (getD (now (back .entry)) 0 0)
+        (object (decodeAll (now (records .entry))) e) ⌝ }
 {
     deadlock::in_mask(back[0], recording::object(records, e) as u64)
 }

@@ -33,8 +33,8 @@ fn write_entry(out: &mut [u8], path: &[u16], size: usize)
 
 // Writes an entry into the rest of the output, from a position on, where it fits there.
 fn write_rest(out: &mut [u8], at: usize, path: &[u16], size: usize)
-    requires { ⌜ (size ≤ largestPattern) × (size ≤ length (now path)) × (at + (2 * size + 2) <
-        18446744073709551616) ⌝ }
+    requires { ⌜ (size ≤ largestPattern) × (size ≤ length (now path))
+        × (at + (2 * size + 2) < 18446744073709551616) ⌝ }
     ensures { λ r. ⌜ (at + (2 * size + 2) ≤ length (now (out .entry)) → now (out .exit)
         ≡ sets (now (out .entry)) at (encode (size ∷ take size (now (path .entry))))) ⌝ }
 {

@@ -34,8 +34,7 @@ latestWith σ latest f =
     cond (isAcquire σ f && ltb (getD latest (object σ f) 0) f) (set latest (object σ f) f) latest
 
 -- The wanted events with what event f needs: the writer of a read; of an acquire and the latest one of its
--- lock,
--- the match of the earlier one.
+-- lock, the match of the earlier one.
 unfoldable pub wantedWith : Trace → List ℕ → List ℕ → ℕ → List ℕ
 wantedWith σ want latest f =
     let top = getD latest (object σ f) 0 in

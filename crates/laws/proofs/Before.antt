@@ -1,6 +1,5 @@
 -- The frontier of the closure of some events' predecessors: of none, of one event more, and the verdict that
--- it
--- gives. Assumes nothing.
+-- it gives. Assumes nothing.
 use Prim.Native.Nat.{ℕ, _≤_, _<_}
 use mathlib.Core.Path.{_≡_, refl, sym, ap, _∙_}
 use mathlib.Core.Logic.{_⊎_, ⊎-elim, _≢_}

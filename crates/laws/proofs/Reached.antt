@@ -1,6 +1,5 @@
 -- A frontier at rest, with nothing more to reach, is that of the smallest closed set: what a closed set has
--- of
--- it, that it is closed, and that it is the closure of the set that it began with. Assumes nothing.
+-- of it, that it is closed, and that it is the closure of the set that it began with. Assumes nothing.
 use Prim.Native.Nat.{ℕ, _≤_, _<_}
 use mathlib.Core.Path.{_≡_, sym, _∙_}
 use mathlib.Core.Logic.{_≢_}

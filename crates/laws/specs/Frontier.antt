@@ -1,6 +1,6 @@
 -- Closures as frontiers: a set that has the predecessors of its events is given by the latest event that it
--- has
--- of each task. How a frontier advances to a closure is stated here, for the contracts of inner functions.
+-- has of each task. How a frontier advances to a closure is stated here, for the contracts of inner
+-- functions.
 use Prim.Native.Nat.{ℕ, _≤_, _<_}
 use mathlib.Core.Path.{_≡_}
 use mathlib.Core.Logic.{_≢_}

@@ -1,6 +1,5 @@
 -- The depth-first search for deadlocks: chains that begin with the smallest event, extended by one later
--- event
--- after the other. That it finds the listing is in proofs/Walk, Search and Listing.
+-- event after the other. That it finds the listing is in proofs/Walk, Search and Listing.
 use Prim.Native.Nat.{ℕ, zero, suc, _-_, _≤_, _<_}
 use mathlib.Core.Path.{_≡_}
 use mathlib.Core.Logic.{_≢_}
@@ -94,8 +93,7 @@ pub record Spread (lead : List ℕ) (count : ℕ) (back : List ℕ) : Type 0 whe
       → Covers (getD lead m 0) (getD back (suc i) 0)
 
 -- Entry i has the locks from which a chain that begins with event a may be completed by i more events: a
--- chain
--- whose last lock is not there leads nowhere. Entry 0 has the locks that complete it.
+-- chain whose last lock is not there leads nowhere. Entry 0 has the locks that complete it.
 pub record Returning (σ : Trace) (a count : ℕ) (back : List ℕ) : Type 0 where
   pub long : length back ≡ largestPattern
   pub complete : getD back 0 0 ≡ held σ a

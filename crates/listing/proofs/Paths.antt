@@ -1,4 +1,5 @@
--- The path of the search and its chain: one event more, and a path that is kept up to a length. Assumes nothing.
+-- The path of the search and its chain: one event more, and a path that is kept up to a length. Assumes
+-- nothing.
 use Prim.Native.Nat.{ℕ, suc, _+_, _-_, _^_, _≤_, _<_}
 use mathlib.Core.Path.{_≡_, sym, ap, _∙_}
 use mathlib.Core.Logic.{_≢_}

@@ -42,8 +42,8 @@ pub record Scanning (σ : Trace) (k : ℕ) (c : Chain) (room excluded e : ℕ) (
       out₀ out f₀ f
 
 -- The event is an acquire.
-pub scanning-acquire : {σ : Trace} {k : ℕ} {c : Chain} {room excluded e : ℕ} {out₀ out : List ℕ} {f₀ f : Found}
-    → Scanning σ k c room excluded e out₀ out f₀ f → e ≢ 0 → T (isAcquire σ e)
+pub scanning-acquire : {σ : Trace} {k : ℕ} {c : Chain} {room excluded e : ℕ} {out₀ out : List ℕ}
+    {f₀ f : Found} → Scanning σ k c room excluded e out₀ out f₀ f → e ≢ 0 → T (isAcquire σ e)
 scanning-acquire {σ} {k} {c} {room} {excluded} {e} z d =
     let t : T (passes σ c excluded e) = z .event d .2 in
     let s = simp and-iff at t in s .0 .0 .0

@@ -45,15 +45,14 @@ fn descend(
     e: usize,
     met: u64,
 ) -> Found
-    requires { ⌜ Ready (now records) (now holding) (now predecessors) (now writers) (now matches) (now next)
-        (now blocks)
+    requires { ⌜ Ready (now records) (now holding) (now predecessors) (now writers) (now matches)
+        (now next) (now blocks)
         × Descending (decodeAll (now records)) (now path) len k tasks guards e met (now front) (now latest)
         × Returning (decodeAll (now records)) (getD (now path) 0 0) (suc k) (now back)
         × Roomy room found × (found .full ≡ false) ⌝ }
     ensures { λ r. ⌜ Roomy room r × (take len (now (path .exit)) ≡ take len (now (path .entry)))
-        × Adds room (branch (decodeAll (now (records .entry))) k (chainAt (now (path .entry)) len tasks
-        guards) e)
-        (now (out .entry)) (now (out .exit)) found r ⌝ }
+        × Adds room (branch (decodeAll (now (records .entry))) k
+        (chainAt (now (path .entry)) len tasks guards) e) (now (out .entry)) (now (out .exit)) found r ⌝ }
 {
     if met != 0 {
         return found;
@@ -109,15 +108,14 @@ fn extend(
     room: usize,
     found: Found,
 ) -> Found
-    requires { ⌜ Ready (now records) (now holding) (now predecessors) (now writers) (now matches) (now next)
-        (now blocks)
+    requires { ⌜ Ready (now records) (now holding) (now predecessors) (now writers) (now matches)
+        (now next) (now blocks)
         × Open (decodeAll (now records)) (now path) len left tasks guards (now front) (now latest)
         × (1 ≤ left) × Returning (decodeAll (now records)) (getD (now path) 0 0) left (now back)
         × Roomy room found × (found .full ≡ false) ⌝ }
     ensures { λ r. ⌜ Roomy room r × (take len (now (path .exit)) ≡ take len (now (path .entry)))
-        × Adds room (extensions (decodeAll (now (records .entry))) left (chainAt (now (path .entry)) len
-        tasks guards))
-        (now (out .entry)) (now (out .exit)) found r ⌝ }
+        × Adds room (extensions (decodeAll (now (records .entry))) left
+        (chainAt (now (path .entry)) len tasks guards)) (now (out .entry)) (now (out .exit)) found r ⌝ }
 {
     let last = path[len - 1] as usize;
     let mut grown = [0u16; 16];
@@ -202,12 +200,12 @@ fn begin(
     room: usize,
     found: Found,
 ) -> Found
-    requires { ⌜ Ready (now records) (now holding) (now predecessors) (now writers) (now matches) (now next)
-        (now blocks)
+    requires { ⌜ Ready (now records) (now holding) (now predecessors) (now writers) (now matches)
+        (now next) (now blocks)
         × (1 ≤ a) × (2 * a ≤ length (now records)) × T (isAcquire (decodeAll (now records)) a)
         × (2 ≤ largest) × (largest ≤ largestPattern) × (length (now path) ≡ largestPattern)
-        × Returning (decodeAll (now records)) a largest (now back) × Roomy room found × (found .full ≡ false)
-        ⌝ }
+        × Returning (decodeAll (now records)) a largest (now back)
+        × Roomy room found × (found .full ≡ false) ⌝ }
     ensures { λ r. ⌜ Roomy room r
         × Adds room (extensions (decodeAll (now (records .entry))) (largest - 1)
         (start (signature (decodeAll (now (records .entry)))) a))
@@ -270,8 +268,8 @@ fn search_first(
     room: usize,
     found: Found,
 ) -> Found
-    requires { ⌜ Ready (now records) (now holding) (now predecessors) (now writers) (now matches) (now next)
-        (now blocks)
+    requires { ⌜ Ready (now records) (now holding) (now predecessors) (now writers) (now matches)
+        (now next) (now blocks)
         × Leading (decodeAll (now records)) 0 16 0 (now lead)
         × (1 ≤ a) × (2 * a ≤ length (now records)) × T (isAcquire (decodeAll (now records)) a)
         × (2 ≤ largest) × (largest ≤ largestPattern) × (length (now path) ≡ largestPattern)
@@ -328,8 +326,8 @@ fn search(
     out: &mut [u8],
     room: usize,
 ) -> Found
-    requires { ⌜ Ready (now records) (now holding) (now predecessors) (now writers) (now matches) (now next)
-        (now blocks)
+    requires { ⌜ Ready (now records) (now holding) (now predecessors) (now writers) (now matches)
+        (now next) (now blocks)
         × (2 ≤ largest) × (largest ≤ largestPattern) ⌝ }
     ensures { λ r. ⌜ Roomy room r × Taken room (deadlocks (decodeAll (now (records .entry))) largest)
         (now (out .entry)) (now (out .exit)) r ⌝ }
@@ -393,8 +391,8 @@ fn deliver(
     largest: usize,
     out: &mut [u8],
 ) -> Found
-    requires { ⌜ Ready (now records) (now holding) (now predecessors) (now writers) (now matches) (now next)
-        (now blocks)
+    requires { ⌜ Ready (now records) (now holding) (now predecessors) (now writers) (now matches)
+        (now next) (now blocks)
         × (2 ≤ largest) × (largest ≤ largestPattern) ⌝ }
     ensures { λ r. ⌜ Delivered (deadlocks (decodeAll (now (records .entry))) largest) (now (out .entry))
         (now (out .exit)) r ⌝ }

@@ -1,6 +1,5 @@
 -- The holder of a lock after one event more of accepted records, and the count of the events after which
--- there
--- is one. Assumes nothing.
+-- there is one. Assumes nothing.
 use Prim.Native.Nat.{ℕ, zero, suc, _+_, _-_, _*_, _≤_, _<_}
 use mathlib.Core.Path.{_≡_, refl, sym, _∙_}
 use mathlib.Core.Logic.{_≢_}

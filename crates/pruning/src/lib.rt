@@ -192,7 +192,7 @@ fn widen(lead: &[u64], mask: u64) -> u64
 
 // The locks from which a chain may return to the held locks of its first event by at most 0, 1 and so on to
 // count - 1 more events.
-pub fn fill_back(lead: &[u64], held: u64, back: &mut [u64], count: usize)
+fn fill_back(lead: &[u64], held: u64, back: &mut [u64], count: usize)
     requires { ⌜ (length (now lead) ≡ locks) × (length (now back) ≡ largestPattern) × (1 ≤ count)
         × (count ≤ largestPattern) ⌝ }
     ensures { λ r. ⌜ Spread (now (lead .entry)) count (now (back .exit))
@@ -217,16 +217,14 @@ pub fn leads_back(
     count: usize,
 ) -> bool
     requires { ⌜ (1 ≤ a) × (2 * a ≤ length (now records)) × (length (now records) ≤ 8190)
-        × (checkEvents (decodeAll (now records)) .refusal ≡ 0) × Holding (decodeAll (now records)) (now
-        holding)
-        × T (isAcquire (decodeAll (now records)) a)
-        × Leading (decodeAll (now records)) a (task (decodeAll (now records)) a) (held (decodeAll (now
-        records)) a)
-        (now lead)
+        × (checkEvents (decodeAll (now records)) .refusal ≡ 0)
+        × Holding (decodeAll (now records)) (now holding) × T (isAcquire (decodeAll (now records)) a)
+        × Leading (decodeAll (now records)) a (task (decodeAll (now records)) a)
+        (held (decodeAll (now records)) a) (now lead)
         × (length (now back) ≡ largestPattern) × (1 ≤ count) × (count ≤ largestPattern) ⌝ }
     ensures { λ r. ⌜ Returning (decodeAll (now (records .entry))) a count (now (back .exit))
-        × (r ≡ hasBit (getD (now (back .exit)) (count - 1) 0) (object (decodeAll (now (records .entry))) a))
-        ⌝ }
+        × (r ≡ hasBit (getD (now (back .exit)) (count - 1) 0)
+        (object (decodeAll (now (records .entry))) a)) ⌝ }
 {
     fill_back(lead, holding[a], back, count);
     deadlock::in_mask(back[count - 1], recording::object(records, a) as u64)

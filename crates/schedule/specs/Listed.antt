@@ -51,8 +51,7 @@ pub record Ready (σ : Trace) (last acquires writes : List ℕ) : Type 0 where
   pub acquire-small : (l : ℕ) → l < locks → getD acquires l 0 ≤ length σ
 
 -- What is decided of the bytes of a pattern and a schedule: 0 for no pattern (question 10 is answered "no"),
--- 1
--- for the checker's "no", 2 for its "yes".
+-- 1 for the checker's "no", 2 for its "yes".
 unfoldable pub answered : Trace → List ℕ → List ℕ → ℕ
 answered σ p ρ =
     cond (isWhole p && isPattern σ (numbers p)) (cond (isWhole ρ && witnesses σ (numbers ρ) (numbers p)) 2

@@ -142,8 +142,7 @@ fn decide_with_tables(records: &[u8], pattern: &[u8], rounds: u64) -> u64
 }
 
 // Decides the lent pattern so many times, with the recording checked and its tables filled once: 0 for no
-// pattern
-// or no accepted recording, 1 for "not", 2 for deadlock.
+// pattern or no accepted recording, 1 for "not", 2 for deadlock.
 #[no_mangle]
 pub extern "C" fn timed_verdicts(recording: &[u8], pattern: &[u8], rounds: u64) -> u64 {
     let checked = recording::check(recording);

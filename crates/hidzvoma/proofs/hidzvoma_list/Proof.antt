@@ -18,9 +18,9 @@ refused-requires c κs =
     let b = s .args .recording .now in
     let k = s .args .largest in
     let room = length (s .args .out .now) in
+    let byte = c .before .before .before .before .before .before .before .shared-slice-known .given 1 in
     rw (c .before .before .before .before .list .ensures .0) (carries-bounds (list-carries b k room)
-    (list-small b k room (c .before .before .before .before .before .before .before .shared-slice-known .given 1
-    .fits)))
+    (list-small b k room (byte .fits)))
 
 same-length : tie.Need-same-length
 same-length c = search needs

@@ -1,5 +1,5 @@
--- `listing::descend` and `listing::extend` meet their contracts, by the number of events that may still follow:
--- the scan has taken what the events before the next one add. Assumes nothing.
+-- `listing::descend` and `listing::extend` meet their contracts, by the number of events that may still
+-- follow: the scan has taken what the events before the next one add. Assumes nothing.
 mod Cycle
 mod Descend
 mod Extend

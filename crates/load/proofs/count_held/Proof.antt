@@ -1,6 +1,5 @@
 -- `load::count_held` meets its contract: before each event the holder is the lock's, and the events passed
--- are
--- counted. Assumes nothing.
+-- are counted. Assumes nothing.
 use Prim.Native.Nat.{ℕ, _+_, _-_, _/_, _≤_, _<_}
 use mathlib.Core.Path.{_≡_, ap, _∙_}
 use mathlib.Core.Logic.{⊎-elim}
