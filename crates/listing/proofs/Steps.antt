@@ -96,7 +96,8 @@ module _ {σ : Trace} {path₀ : List ℕ} {len left tasks guards : ℕ} {front 
 pub step-end : {σ : Trace} {left : ℕ} {c : Chain} → c .first ≤ length σ → 1 ≤ left → {room excluded e : ℕ}
     {out₀ out : List ℕ} {f₀ f : Found} → Scanning σ (left - 1) c room excluded e out₀ out f₀ f → e ≡ 0
     → Adds room (extensions σ left c) out₀ out f₀ f
-step-end {σ} {left} inside h z q = let s : left ≡ suc (left - 1) = omega arith in rw s (scanning-end inside z q)
+step-end {σ} {left} inside h z q =
+    let s : left ≡ suc (left - 1) = omega arith in rw s (scanning-end inside z q)
 
 -- ---- the frontier that is kept
 
@@ -123,8 +124,8 @@ kept-reusable ok {p} {of} {e} z h k b = record {
 
 -- The frontier of event e is kept, unless e was passed over before.
 pub kept-next : {σ : Trace} {k : ℕ} {p q : List ℕ} {first of e met : ℕ}
-    {grown newest grown′ newest′ : List ℕ} → q ≡ p → Kept σ p of e grown newest → 1 ≤ e → Attempted σ k q first e met grown′ newest′
-    → (met ≡ 3 → (grown′ ≡ grown) × (newest′ ≡ newest)) → {of′ x : ℕ}
+    {grown newest grown′ newest′ : List ℕ} → q ≡ p → Kept σ p of e grown newest → 1 ≤ e
+    → Attempted σ k q first e met grown′ newest′ → (met ≡ 3 → (grown′ ≡ grown) × (newest′ ≡ newest)) → {of′ x : ℕ}
     → of′ ≡ cond (eqb met 3) of (task σ e) → (x ≢ 0 → e < x) → Kept σ p of′ x grown′ newest′
 kept-next {σ} {k} {p} {q} {first} {of} {e} {met} s z h a same {of′} r later = record {
   again = λ d i. ⊎-elim
