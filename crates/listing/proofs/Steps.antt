@@ -125,8 +125,8 @@ kept-reusable ok {p} {of} {e} z h k b = record {
 -- The frontier of event e is kept, unless e was passed over before.
 pub kept-next : {σ : Trace} {k : ℕ} {p q : List ℕ} {first of e met : ℕ}
     {grown newest grown′ newest′ : List ℕ} → q ≡ p → Kept σ p of e grown newest → 1 ≤ e
-    → Attempted σ k q first e met grown′ newest′ → (met ≡ 3 → (grown′ ≡ grown) × (newest′ ≡ newest)) → {of′ x : ℕ}
-    → of′ ≡ cond (eqb met 3) of (task σ e) → (x ≢ 0 → e < x) → Kept σ p of′ x grown′ newest′
+    → Attempted σ k q first e met grown′ newest′ → (met ≡ 3 → (grown′ ≡ grown) × (newest′ ≡ newest))
+    → {of′ x : ℕ} → of′ ≡ cond (eqb met 3) of (task σ e) → (x ≢ 0 → e < x) → Kept σ p of′ x grown′ newest′
 kept-next {σ} {k} {p} {q} {first} {of} {e} {met} s z h a same {of′} r later = record {
   again = λ d i. ⊎-elim
       (λ (m : met ≡ 3).
