@@ -9,11 +9,11 @@ use Rattle.listing.proofs.Answers.{delivered-none, delivered-copied, de
 use Rattle.listing.proofs.deliver.Statement.{statement}
 use Rattle.listing.proofs.deliver.Tie as tie
 
-slice-aggregate-search : tie.Need-slice-aggregate-search
-slice-aggregate-search c = search needs
+slice-aggregate-search-all : tie.Need-slice-aggregate-search-all
+slice-aggregate-search-all c = search needs
 
-search-requires : tie.Need-search-requires
-search-requires c κs = search needs
+search-all-requires : tie.Need-search-all-requires
+search-all-requires c κs = search needs
 
 returns : tie.Need-returns
 returns c =
@@ -21,7 +21,7 @@ returns c =
     in
     let b = s .args .records .now in
     let ps = deadlocks (decodeAll b) (s .args .largest) in
-    delivered-none ps (s .args .out .now) _ _ _ (c .before .before .search .ensures .1) (c .if1 .taken)
+    delivered-none ps (s .args .out .now) _ _ _ (c .before .before .search-all .ensures .1) (c .if1 .taken)
 
 slice-aggregate-copy : tie.Need-slice-aggregate-copy
 slice-aggregate-copy c = search needs
@@ -34,7 +34,7 @@ same-length c = search needs
 
 -- The entries fit the buffer.
 fits : (c : tie.After-slice-known2)
-    → c .before .before .before .before .before .before .before .before .search .result .bytes ≤ length {A =
+    → c .before .before .before .before .before .before .before .before .search-all .result .bytes ≤ length {A =
     ℕ} (replicate 65536 0)
 fits c = rw (length-replicate {A = ℕ} 65536 0) (c .before .before .before .before .before .if2 .taken)
 
@@ -44,12 +44,12 @@ returns-2 c =
     .before .before .before .before .before .before in
     let b = s .args .records .now in
     let ps = deadlocks (decodeAll b) (s .args .largest) in
-    let found = c .before .before .before .before .before .before .before .before .search .ensures in
+    let found = c .before .before .before .before .before .before .before .before .search-all .ensures in
     delivered-copied ps (s .args .out .now) _ _ _ (found .1) (c .before .before .before .before .before
     .before .if1 .left) (found .0 .bytes-le) (fits c) _ (c .before .before .copy .ensures)
 
-search-requires-2 : tie.Need-search-requires-2
-search-requires-2 c κs = search needs
+search-all-requires-2 : tie.Need-search-all-requires-2
+search-all-requires-2 c κs = search needs
 
 same-length-2 : tie.Need-same-length-2
 same-length-2 c = search needs
@@ -60,8 +60,8 @@ returns-3 c =
     .before .before .before .before .before in
     let b = s .args .records .now in
     let ps = deadlocks (decodeAll b) (s .args .largest) in
-    let found = c .before .before .before .before .before .before .before .search .ensures in
-    let again = c .before .before .search2 .ensures in
+    let found = c .before .before .before .before .before .before .before .search-all .ensures in
+    let again = c .before .before .search-all2 .ensures in
     delivered-again ps (s .args .out .now) _ _ _ (found .1) (c .before .before .before .before .before .if1
     .left) (found .0 .bytes-le) _ _ (again .1) (again .0 .bytes-le)
 
@@ -69,13 +69,13 @@ pub deliver-spec : {M : Type 1} → statement M
 deliver-spec =
     tie.close
     (tie.spec
-    slice-aggregate-search
-    search-requires
+    slice-aggregate-search-all
+    search-all-requires
     returns
     slice-aggregate-copy
     copy-requires
     same-length
     returns-2
-    search-requires-2
+    search-all-requires-2
     same-length-2
     returns-3)

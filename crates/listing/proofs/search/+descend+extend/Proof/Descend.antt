@@ -1,4 +1,4 @@
--- `listing::descend`: what each need asks follows from its event's record. Assumes nothing.
+-- `listing::search::descend`: what each need asks follows from its event's record. Assumes nothing.
 use Prim.Native.Nat.{ℕ}
 use mathlib.Core.Path.{refl, sym, _∙_}
 use native.Mathlib.Omega.{arith}
@@ -10,9 +10,9 @@ use Rattle.entries.proofs.Laws.{adds-none}
 use Rattle.listing.proofs.Paths.{kept-less, path-kept, returning-fewer, follows-acquire}
 use Rattle.listing.proofs.Paths.{descend-dropped, descend-completes, descend-longer, descend-nothing}
 use Rattle.listing.proofs.Paths.{descend-open}
-use Rattle.listing.proofs.descend.Reads as descend
-use Rattle.listing.proofs.+descend+extend.Lts-descend as lts
-use Rattle.listing.proofs.+descend+extend.Proof.Cycle.{descend-at, descend-claims}
+use Rattle.listing.proofs.search.descend.Reads as descend
+use Rattle.listing.proofs.search.+descend+extend.Lts-descend as lts
+use Rattle.listing.proofs.search.+descend+extend.Proof.Cycle.{descend-at, descend-claims}
 
 module _ (t : ℕ) where
   pub returns : lts.Need-returns (descend-claims t) (descend-at t) descend.Post

@@ -1,4 +1,4 @@
--- `listing::search_first` meets its contract: an acquire whose lock does not lead back begins nothing.
+-- `listing::search::search_first` meets its contract: an acquire whose lock does not lead back begins nothing.
 -- Assumes nothing.
 use mathlib.Core.Path.{refl, sym, _∙_}
 use native.Mathlib.Omega.{arith}
@@ -12,8 +12,8 @@ use Rattle.laws.proofs.Extensions.{beginning-acquire}
 use Rattle.laws.proofs.Returning.{leading-all}
 use Rattle.entries.proofs.Laws.{adds-none}
 use Rattle.listing.proofs.Beginnings.{beginning-nowhere}
-use Rattle.listing.proofs.search_first.Statement.{statement}
-use Rattle.listing.proofs.search_first.Tie as tie
+use Rattle.listing.proofs.search.search_first.Statement.{statement}
+use Rattle.listing.proofs.search.search_first.Tie as tie
 
 slice-aggregate-leads-back : tie.Need-slice-aggregate-leads-back
 slice-aggregate-leads-back c = search needs

@@ -1,4 +1,4 @@
--- `listing::extend`: what is asked in a turn of its scan. Assumes nothing.
+-- `listing::search::extend`: what is asked in a turn of its scan. Assumes nothing.
 use Prim.Native.Nat.{ℕ, _-_}
 use mathlib.Core.Path.{sym, _∙_}
 use native.Mathlib.Omega.{arith}
@@ -9,10 +9,10 @@ use Rattle.laws.proofs.Firsts.{toVisit-falls}
 use Rattle.listing.proofs.Steps.{still-events, still-returning, kept-reusable, kept-next, descending}
 use Rattle.listing.proofs.Steps.{step-over, step-next}
 use Rattle.listing.proofs.Scans.{scanning-acquire}
-use Rattle.listing.proofs.extend.Reads as extend
-use Rattle.listing.proofs.+descend+extend.Lts-extend as lts
-use Rattle.listing.proofs.+descend+extend.Proof.Cycle.{extend-at, extend-claims, Inv-loop, μ-loop}
-use Rattle.listing.proofs.+descend+extend.Proof.Cycle.{chain-event, first-event}
+use Rattle.listing.proofs.search.extend.Reads as extend
+use Rattle.listing.proofs.search.+descend+extend.Lts-extend as lts
+use Rattle.listing.proofs.search.+descend+extend.Proof.Cycle.{extend-at, extend-claims, Inv-loop, μ-loop}
+use Rattle.listing.proofs.search.+descend+extend.Proof.Cycle.{chain-event, first-event}
 
 module _ (t : ℕ) where
   pub sub-attempt : lts.Need-sub-attempt (extend-claims t) (extend-at t) extend.Post Inv-loop μ-loop

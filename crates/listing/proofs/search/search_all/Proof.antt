@@ -1,4 +1,4 @@
--- `listing::search` meets its contract: what the events before the next one begin has been taken. Assumes
+-- `listing::search::search_all` meets its contract: what the events before the next one begin has been taken. Assumes
 -- nothing.
 use Prim.Native.Nat.{suc, _-_}
 use mathlib.Core.Path.{_≡_, refl, _∙_}
@@ -12,8 +12,8 @@ use Rattle.laws.proofs.Firsts.{toVisit, toVisit-falls}
 use Rattle.pruning.specs.Linked.{isNested}
 use Rattle.listing.proofs.Beginnings.{Searching, searching-start, searching-next, searching-over}
 use Rattle.listing.proofs.Beginnings.{searching-end}
-use Rattle.listing.proofs.search.Statement.{statement}
-use Rattle.listing.proofs.search.Tie as tie
+use Rattle.listing.proofs.search.search_all.Statement.{statement}
+use Rattle.listing.proofs.search.search_all.Tie as tie
 
 abbrev Inv-loop : tie.InvT-loop
 Inv-loop records holding predecessors writers matches next blocks largest out₀ room lead path₀ found₀ a₀ out
@@ -152,8 +152,8 @@ returns-2 c =
       rw q (searching-end (l .inv .2) (c .loop-test .left) (omega (arith, s .pre .1, s .pre .2))),
     )
 
-pub search-spec : {M : Type 1} → statement M
-search-spec =
+pub search-all-spec : {M : Type 1} → statement M
+search-all-spec =
     tie.close
     (tie.spec
     Inv-loop

@@ -1,4 +1,4 @@
--- `listing::begin` meets its contract: the chain of one event is open. Assumes nothing.
+-- `listing::search::begin` meets its contract: the chain of one event is open. Assumes nothing.
 use mathlib.Core.Path.{refl, _∙_}
 use mathlib.Core.List.{[]}
 use native.Mathlib.Omega.{arith}
@@ -10,8 +10,8 @@ use Rattle.laws.proofs.Trace.{record-event}
 use Rattle.laws.proofs.Questions.{events-sound}
 use Rattle.listing.proofs.Paths.{returning-fewer}
 use Rattle.listing.proofs.Beginnings.{begin-chain, begin-open, begin-reusable}
-use Rattle.listing.proofs.begin.Statement.{statement}
-use Rattle.listing.proofs.begin.Tie as tie
+use Rattle.listing.proofs.search.begin.Statement.{statement}
+use Rattle.listing.proofs.search.begin.Tie as tie
 
 cast-path : tie.Need-cast-path
 cast-path c = search needs

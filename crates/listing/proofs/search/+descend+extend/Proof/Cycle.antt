@@ -1,4 +1,4 @@
--- The cycle of `listing::descend` and `listing::extend`: its measures, what each may take of the other, and
+-- The cycle of `listing::search::descend` and `listing::search::extend`: its measures, what each may take of the other, and
 -- the invariant of the scan. Assumes nothing.
 use Prim.Native.Nat.{ℕ, _+_, _-_, _*_, _≤_, _<_}
 use mathlib.Core.Path.{_≡_, refl}
@@ -14,12 +14,12 @@ use Rattle.listing.proofs.Scans.{Scanning}
 use Rattle.listing.proofs.Steps.{Kept}
 use borrow.Fn.Kinds.{In}
 use borrow.Fn.PlainCycle.{Measures, is, falls, and}
-use Rattle.listing.proofs.descend.Reads as descend
-use Rattle.listing.proofs.descend.Kinds as descend-kinds
-use Rattle.listing.proofs.+descend+extend.Lts-descend as descend-lts
-use Rattle.listing.proofs.extend.Reads as extend
-use Rattle.listing.proofs.extend.Kinds as extend-kinds
-use Rattle.listing.proofs.+descend+extend.Lts-extend as extend-lts
+use Rattle.listing.proofs.search.descend.Reads as descend
+use Rattle.listing.proofs.search.descend.Kinds as descend-kinds
+use Rattle.listing.proofs.search.+descend+extend.Lts-descend as descend-lts
+use Rattle.listing.proofs.search.extend.Reads as extend
+use Rattle.listing.proofs.search.extend.Kinds as extend-kinds
+use Rattle.listing.proofs.search.+descend+extend.Lts-extend as extend-lts
 use Rattle.chain.proofs.attempt.Reads as attempt-reads
 use Rattle.chain.proofs.completes.Reads as completes-reads
 use Rattle.chain.proofs.exclude.Reads as exclude-reads

@@ -1,20 +1,20 @@
--- `listing::descend` and `listing::extend` meet their contracts, by the number of events that may still
+-- `listing::search::descend` and `listing::search::extend` meet their contracts, by the number of events that may still
 -- follow: the scan has taken what the events before the next one add. Assumes nothing.
 mod Cycle
 mod Descend
 mod Extend
 mod Scan
-use Rattle.listing.proofs.descend.Reads as descend
-use Rattle.listing.proofs.extend.Reads as extend
-use Rattle.listing.proofs.+descend+extend.Lts-descend as descend-lts
-use Rattle.listing.proofs.+descend+extend.Lts-extend as extend-lts
-use Rattle.listing.proofs.+descend+extend.{statement}
-use Rattle.listing.proofs.+descend+extend.Tie.{close}
-use Rattle.listing.proofs.+descend+extend.Proof.Cycle.{μ-descend, μ-extend, descend-claims, descend-at}
-use Rattle.listing.proofs.+descend+extend.Proof.Cycle.{extend-claims, extend-at, Inv-loop, μ-loop}
-use Rattle.listing.proofs.+descend+extend.Proof.Descend as d
-use Rattle.listing.proofs.+descend+extend.Proof.Extend as x
-use Rattle.listing.proofs.+descend+extend.Proof.Scan as scan
+use Rattle.listing.proofs.search.descend.Reads as descend
+use Rattle.listing.proofs.search.extend.Reads as extend
+use Rattle.listing.proofs.search.+descend+extend.Lts-descend as descend-lts
+use Rattle.listing.proofs.search.+descend+extend.Lts-extend as extend-lts
+use Rattle.listing.proofs.search.+descend+extend.{statement}
+use Rattle.listing.proofs.search.+descend+extend.Tie.{close}
+use Rattle.listing.proofs.search.+descend+extend.Proof.Cycle.{μ-descend, μ-extend, descend-claims, descend-at}
+use Rattle.listing.proofs.search.+descend+extend.Proof.Cycle.{extend-claims, extend-at, Inv-loop, μ-loop}
+use Rattle.listing.proofs.search.+descend+extend.Proof.Descend as d
+use Rattle.listing.proofs.search.+descend+extend.Proof.Extend as x
+use Rattle.listing.proofs.search.+descend+extend.Proof.Scan as scan
 
 pub +descend+extend-spec : {M : Type 1} → statement M
 +descend+extend-spec = close μ-descend μ-extend (λ t. descend-lts.spec (descend-claims t)
