@@ -1,19 +1,19 @@
 -- What visiting an event leaves, by its operation and the latest acquire of its lock, and what it reads.
 -- Assumes nothing.
-use Prim.Native.Nat.{ℕ, _*_, _≤_, _<_}
-use mathlib.Core.Path.{_≡_, refl, sym, _∙_}
+use Prim.Native.Nat.{ℕ, _*_, _≤_, min}
+use mathlib.Core.Path.{_≡_, refl}
 use mathlib.Core.Logic.{_≢_}
 use mathlib.Core.List.{List}
 use native.Mathlib.Omega.{arith}
-use lib.ListN.{length, getD, set}
-use borrow.Author.Tests.{eq-eqb, ne-eqb, lt-ltb, le-ltb}
+use lib.ListN.{length, getD}
+use borrow.Author.Tests.{eq-eqb, ne-eqb}
 use Rattle.model.specs.Trace.{Trace, at, task, object}
 use Rattle.model.specs.Relations.{writer, matching}
 use Rattle.model.specs.Recording.{decodeAll}
 use Rattle.laws.specs.Frontier.{raised}
 use Rattle.laws.proofs.Relations.{writer-below}
 use Rattle.laws.proofs.Faults.{isRead-op, isAcquire-op}
-use Rattle.frontier.specs.Visit.{latestWith, wantedWith}
+use Rattle.frontier.specs.Visit.{wantedWriter, wantedEarlier, latestWith, wantedWith}
 
 -- ---- by the operation
 
@@ -22,85 +22,54 @@ abbrev pub Leaves : Trace → ℕ → List ℕ → List ℕ → List ℕ → Lis
 Leaves σ f want latest want′ latest′ =
     (want′ ≡ wantedWith σ want latest f) × (latest′ ≡ latestWith σ latest f)
 
-module _ (σ : Trace) (f op : ℕ) (is-op : op ≡ at σ f .op) (want latest : List ℕ) where
-  -- A read without a writer changes nothing.
-  pub read-unwritten : op ≡ 0 → writer σ f ≡ 0 → Leaves σ f want latest want latest
-  unfolding wantedWith latestWith
-  read-unwritten a n =
-      rw (isRead-op σ f is-op, isAcquire-op σ f is-op, a, eq-eqb (writer σ f) 0 n) (refl, refl)
-
+module _ (σ : Trace) (f : ℕ) {op : ℕ} (is-op : op ≡ at σ f .op) (want latest : List ℕ) where
   -- A read wants its writer.
-  pub read-written : op ≡ 0 → (w : ℕ) → w ≡ writer σ f → w ≢ 0 → (u : ℕ) → u ≡ task σ w
-      → Leaves σ f want latest (raised want u w) latest
+  pub read-leaves : op ≡ 0 → {want′ : List ℕ} → want′ ≡ wantedWriter σ want f
+      → Leaves σ f want latest want′ latest
   unfolding wantedWith latestWith
-  read-written a w q d u r =
-      rw (
-        r,
-        q,
-        isRead-op σ f is-op,
-        isAcquire-op σ f is-op,
-        a,
-        ne-eqb (writer σ f) 0 (λ n. d (q ∙ n)),
-      ) (refl, refl)
+  read-leaves a w = rw (isRead-op σ f is-op, isAcquire-op σ f is-op, a) (w, refl)
+
+  -- An acquire is noted, and the match of the earlier one is wanted.
+  pub acquire-leaves : op ≡ 2 → {want′ latest′ : List ℕ}
+      → (want′ ≡ wantedEarlier σ want (getD latest (object σ f) 0) f)
+      × (latest′ ≡ raised latest (object σ f) f)
+      → Leaves σ f want latest want′ latest′
+  unfolding wantedWith latestWith
+  acquire-leaves a q = rw (isRead-op σ f is-op, isAcquire-op σ f is-op, a) q
 
   -- A write or a release changes nothing.
   pub neither : op ≢ 0 → op ≢ 2 → Leaves σ f want latest want latest
   unfolding wantedWith latestWith
   neither a b = rw (isRead-op σ f is-op, isAcquire-op σ f is-op, ne-eqb op 0 a, ne-eqb op 2 b) (refl, refl)
 
-  module _ (a : op ≡ 2) (l : ℕ) (r : l ≡ object σ f) where
-    -- The first acquire of its lock.
-    pub acquire-first : getD latest l 0 ≡ 0 → 1 ≤ f → Leaves σ f want latest want (set latest l f)
-    unfolding wantedWith latestWith
-    acquire-first n h =
-        let z : getD latest (object σ f) 0 ≡ 0 = rw r at n in
-        rw (
-          r,
-          isRead-op σ f is-op,
-          isAcquire-op σ f is-op,
-          a,
-          z,
-          lt-ltb 0 f h,
-        ) (refl, refl)
+-- ---- the writer of a read
 
-    -- A later one than the latest: that one's match is wanted.
-    pub acquire-later : (top : ℕ) → top ≡ getD latest l 0 → top ≢ 0 → top < f → (m : ℕ) → m ≡ matching σ top
-        → (u : ℕ) → u ≡ task σ top → Leaves σ f want latest (raised want u m) (set latest l f)
-    unfolding wantedWith latestWith
-    acquire-later top q d k m s u v =
-        let z : getD latest (object σ f) 0 ≡ top = rw r at (sym q) in
-        rw (
-          r,
-          s,
-          v,
-          isRead-op σ f is-op,
-          isAcquire-op σ f is-op,
-          a,
-          z,
-          ne-eqb top 0 d,
-          lt-ltb top f k,
-        ) (refl, refl)
+module _ (σ : Trace) (want : List ℕ) (f : ℕ) {w : ℕ} (q : w ≡ writer σ f) where
+  -- Without a writer nothing more is wanted.
+  pub writer-none : w ≡ 0 → wantedWriter σ want f ≡ want
+  unfolding wantedWriter
+  writer-none n = rw (← q, n)
 
-    -- An earlier one: its own match is wanted.
-    pub acquire-earlier : (top : ℕ) → top ≡ getD latest l 0 → top ≢ 0 → f ≤ top → (m : ℕ) → m ≡ matching σ f
-        → (u : ℕ) → u ≡ task σ f → Leaves σ f want latest (raised want u m) latest
-    unfolding wantedWith latestWith
-    acquire-earlier top q d k m s u v =
-        let z : getD latest (object σ f) 0 ≡ top = rw r at (sym q) in
-        rw (
-          s,
-          v,
-          isRead-op σ f is-op,
-          isAcquire-op σ f is-op,
-          a,
-          z,
-          ne-eqb top 0 d,
-          le-ltb top f k,
-        ) (refl, refl)
-
--- ---- what a visit reads
+  -- The writer is wanted of its task.
+  pub writer-some : w ≢ 0 → wantedWriter σ want f ≡ raised want (task σ w) w
+  unfolding wantedWriter
+  writer-some d = rw (← q, ne-eqb w 0 d)
 
 -- A writer is an earlier event.
 pub writer-in : (b : List ℕ) (f : ℕ) → (1 ≤ f) × (2 * f ≤ length b) → (w : ℕ) → w ≡ writer (decodeAll b) f
     → 2 * w ≤ length b
 writer-in b f inside w q = omega (arith, writer-below (decodeAll b) f, inside)
+
+-- ---- the earlier one of two acquires
+
+module _ (σ : Trace) (want : List ℕ) (top f : ℕ) where
+  -- With no acquire before, nothing more is wanted.
+  pub earlier-none : top ≡ 0 → wantedEarlier σ want top f ≡ want
+  unfolding wantedEarlier
+  earlier-none n = rw (eq-eqb top 0 n)
+
+  -- The match of the earlier one is wanted.
+  pub earlier-some : top ≢ 0 → {e : ℕ} → e ≡ min top f
+      → wantedEarlier σ want top f ≡ raised want (task σ e) (matching σ e)
+  unfolding wantedEarlier
+  earlier-some d q = rw (ne-eqb top 0 d, q)

@@ -24,7 +24,6 @@ pub record Turning (σ : Trace) (front given want latest : List ℕ) (t old f : 
   pub next : old < f → (task σ f ≡ t) × Behind σ front f
   pub entailed : Entails σ given want
   pub grows : (u : ℕ) → getD given u 0 ≤ getD want u 0
-  pub small : f ≤ length σ
 
 module _ (σ : Trace) where
   -- The turn begins at the wanted event.
@@ -36,7 +35,6 @@ module _ (σ : Trace) where
     next = λ _. (own .1, record { event = (omega arith, own .0); within = here });
     entailed = entails-refl σ want;
     grows = λ u. omega arith;
-    small = own .0;
   }
     where
       own : (getD want t 0 ≤ length σ) × (task σ (getD want t 0) ≡ t)
@@ -56,7 +54,6 @@ module _ (σ : Trace) where
     next = earlier;
     entailed = v .entailed given (z .entailed);
     grows = λ u. omega (arith, z .grows u, v .grows u);
-    small = omega (arith, predecessor-below σ f, z .small);
   }
     where
       at-f : (task σ f ≡ t) × Behind σ front f

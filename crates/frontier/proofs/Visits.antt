@@ -1,5 +1,5 @@
 -- How the frontier goes on after a visit of one event. Assumes nothing.
-use Prim.Native.Nat.{ℕ, _≤_, _<_}
+use Prim.Native.Nat.{ℕ, _≤_, _<_, min}
 use mathlib.Core.Path.{_≡_, refl, sym, _∙_}
 use mathlib.Core.Logic.{⊎-elim, _≢_}
 use mathlib.Core.Bool.{false}
@@ -7,7 +7,7 @@ use mathlib.Core.List.{List}
 use native.Mathlib.Omega.{arith}
 use lib.Dec.{T}
 use lib.ListN.{length, getD, set}
-use borrow.Author.Tests.{ne-eqb, eqb-true}
+use borrow.Author.Tests.{ne-eqb, eqb-true, lt-ltb, le-ltb}
 use Rattle.model.specs.Trace.{Trace, tasks, locks, at, task, object, isRead, isAcquire}
 use Rattle.model.specs.Relations.{predecessor, writer, matching}
 use Rattle.model.specs.Closed.{Again}
@@ -22,8 +22,8 @@ use Rattle.laws.proofs.WellFormed.{WellFormed, lock-lt, matching-between, match
 use Rattle.laws.proofs.Advancing.{visit-other, visit-earlier, visit-later}
 use Rattle.laws.proofs.Reached.{writer-entailed, match-entailed}
 use Rattle.frontier.specs.Visit.{latestWith, wantedWith}
-use Rattle.frontier.proofs.Leaves.{Leaves, read-unwritten, read-written, neither, acquire-first}
-use Rattle.frontier.proofs.Leaves.{acquire-later, acquire-earlier}
+use Rattle.frontier.proofs.Leaves.{Leaves, read-leaves, acquire-leaves, neither, writer-none}
+use Rattle.frontier.proofs.Leaves.{writer-some, earlier-none, earlier-some}
 
 -- What is known after a visit of event f.
 pub record Visiting (σ : Trace) (front want want′ latest′ : List ℕ) (t old f : ℕ) : Type 0 where
@@ -204,30 +204,30 @@ module _ (σ : Trace) (ok : WellFormed σ) (front want latest : List ℕ) (t old
           old f
       read a =
           let c = no-acquire (omega arith) in
-          ⊎-elim
-          (λ q. leaves want latest (read-unwritten σ f (at σ f .op) refl want latest a q) (kept q c))
-          (λ d. leaves _ latest (read-written σ f (at σ f .op) refl want latest a (writer σ f) refl d _ refl)
-          (written d c)) (equal? (writer σ f) 0)
+          leaves _ latest (read-leaves σ f refl want latest a refl)
+          (⊎-elim (λ n. rw (writer-none σ want f refl n) (kept n c))
+          (λ d. rw (writer-some σ want f refl d) (written d c)) (equal? (writer σ f) 0))
 
       other : at σ f .op ≢ 0 → at σ f .op ≢ 2
           → Visiting σ front want (wantedWith σ want latest f) (latestWith σ latest f) t old f
-      other d b =
-          leaves want latest (neither σ f (at σ f .op) refl want latest d b) (kept (unread d) (no-acquire b))
+      other d b = leaves want latest (neither σ f refl want latest d b) (kept (unread d) (no-acquire b))
 
       acquired : at σ f .op ≢ 0 → at σ f .op ≡ 2
           → Visiting σ front want (wantedWith σ want latest f) (latestWith σ latest f) t old f
       acquired d a =
-          ⊎-elim
-          (λ q. leaves want _ (acquire-first σ f (at σ f .op) refl want latest a (object σ f) refl q
-          (at-f .event .0))
-          (first acquire (unread d) q))
+          leaves _ _ (acquire-leaves σ f refl want latest a (refl, refl))
+          (⊎-elim
+          (λ n. rw (earlier-none σ want top f n, lt-ltb top f (omega (arith, at-f .event)))
+          (first acquire (unread d) n))
           (λ x. ⊎-elim
-          (λ b. leaves _ latest (acquire-earlier σ f (at σ f .op) refl want latest a (object σ f) refl
-          (getD latest (object σ f) 0) refl x b _ refl _ refl) (earlier acquire (unread d) x b))
-          (λ b. leaves _ _ (acquire-later σ f (at σ f .op) refl want latest a (object σ f) refl
-          (getD latest (object σ f) 0) refl x b _ refl _ refl) (later acquire (unread d) x b))
-          (at-most? f (getD latest (object σ f) 0)))
-          (equal? (getD latest (object σ f) 0) 0)
+          (λ (b : f ≤ top). let q : f ≡ min top f = omega arith in
+          rw (earlier-some σ want top f x q, le-ltb top f b) (earlier acquire (unread d) x b))
+          (λ (b : top < f). let q : top ≡ min top f = omega arith in
+          rw (earlier-some σ want top f x q, lt-ltb top f b) (later acquire (unread d) x b))
+          (at-most? f top)) (equal? top 0))
         where
+          top : ℕ
+          top = getD latest (object σ f) 0
+
           acquire : T (isAcquire σ f)
           acquire = rw (isAcquire-op σ f refl, a) tt

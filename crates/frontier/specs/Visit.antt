@@ -1,11 +1,11 @@
 -- Visiting one event: what it adds to the wanted events, and to the latest acquires. The tables that it needs
 -- have the relations of each event.
-use Prim.Native.Nat.{ℕ, _≤_, _<_}
+use Prim.Native.Nat.{ℕ, _≤_, _<_, min}
 use mathlib.Core.Path.{_≡_}
-use mathlib.Core.Bool.{cond, _&&_}
+use mathlib.Core.Bool.{cond}
 use mathlib.Core.List.{List}
-use lib.Dec.{eqb, ltb}
-use lib.ListN.{length, getD, set}
+use lib.Dec.{eqb}
+use lib.ListN.{length, getD}
 use Rattle.model.specs.Trace.{Trace, locks, task, object, isRead, isAcquire}
 use Rattle.model.specs.Relations.{predecessor, writer, matching}
 use Rattle.laws.specs.Frontier.{raised}
@@ -28,19 +28,22 @@ pub record Acquires (σ : Trace) (latest : List ℕ) : Type 0 where
   pub long : length latest ≡ locks
   pub small : (l : ℕ) → l < locks → getD latest l 0 ≤ length σ
 
--- The latest acquires with event f.
-unfoldable pub latestWith : Trace → List ℕ → ℕ → List ℕ
-latestWith σ latest f =
-    cond (isAcquire σ f && ltb (getD latest (object σ f) 0) f) (set latest (object σ f) f) latest
+-- The wanted events with the writer of event f, where it has one.
+unfoldable pub wantedWriter : Trace → List ℕ → ℕ → List ℕ
+wantedWriter σ want f = cond (eqb (writer σ f) 0) want (raised want (task σ (writer σ f)) (writer σ f))
+
+-- The wanted events with the match of the earlier one of two acquires, `top` and f, unless `top` is 0.
+unfoldable pub wantedEarlier : Trace → List ℕ → ℕ → ℕ → List ℕ
+wantedEarlier σ want top f =
+    cond (eqb top 0) want (raised want (task σ (min top f)) (matching σ (min top f)))
 
 -- The wanted events with what event f needs: the writer of a read; of an acquire and the latest one of its
 -- lock, the match of the earlier one.
 unfoldable pub wantedWith : Trace → List ℕ → List ℕ → ℕ → List ℕ
 wantedWith σ want latest f =
-    let top = getD latest (object σ f) 0 in
-    cond (isRead σ f)
-    (cond (eqb (writer σ f) 0) want (raised want (task σ (writer σ f)) (writer σ f)))
-    (cond (isAcquire σ f)
-    (cond (eqb top 0) want
-    (cond (ltb top f) (raised want (task σ top) (matching σ top)) (raised want (task σ f) (matching σ f))))
-    want)
+    cond (isRead σ f) (wantedWriter σ want f)
+    (cond (isAcquire σ f) (wantedEarlier σ want (getD latest (object σ f) 0) f) want)
+
+-- The latest acquires with event f.
+unfoldable pub latestWith : Trace → List ℕ → ℕ → List ℕ
+latestWith σ latest f = cond (isAcquire σ f) (raised latest (object σ f) f) latest

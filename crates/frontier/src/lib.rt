@@ -1,30 +1,85 @@
 // The sync-preserving closure of an event set. A set that has the predecessors of its events is kept as its
-// frontier, the latest event that it has of each task; each event is visited once, when the frontier passes
-// it.
-ghost use Prim.Native.Nat.{_+_, _*_, _/_, _<_, _≤_};
+// frontier, the latest event that it has of each task; an event is visited once, when the frontier passes it.
+ghost use Prim.Native.Nat.{ℕ, _*_, _<_, _≤_, min};
 ghost use mathlib.Core.Path.{_≡_};
 ghost use lib.ListN.{length, getD};
 ghost use lib.Dec.{leb};
-ghost use Rattle.model.specs.Trace.{tasks, task};
-ghost use Rattle.model.specs.Relations.{predecessor};
+ghost use Rattle.model.specs.Trace.{tasks, locks, task, object};
+ghost use Rattle.model.specs.Relations.{predecessor, writer, matching};
 ghost use Rattle.model.specs.Recording.{decodeAll};
 ghost use Rattle.model.specs.Calls.Check.{checkEvents};
 ghost use Rattle.laws.specs.Frontier.{Settled, raised, Advanced, Turned};
 ghost use Rattle.frontier.specs.Visit.{Reading, Needed, Acquires, latestWith, wantedWith};
+ghost use Rattle.frontier.specs.Visit.{wantedWriter, wantedEarlier};
 
-// Raises the wanted event of task t to e, where e is later.
-fn raise(want: &mut [u16], t: usize, e: u16)
-    requires { ⌜ t < length (now want) ⌝ }
-    ensures { λ r. ⌜ now (want .exit) ≡ raised (now (want .entry)) t e ⌝ }
+// Raises entry i of a table of events, one for each task or each lock, to event e, where e is later.
+fn raise(events: &mut [u16], i: usize, e: u16)
+    requires { ⌜ i < length (now events) ⌝ }
+    ensures { λ r. ⌜ now (events .exit) ≡ raised (now (events .entry)) i e ⌝ }
 {
-    if want[t] < e {
-        want[t] = e;
+    if events[i] < e {
+        events[i] = e;
     }
 }
 
-// Visits event f: wants the writer of a read, and of an acquire and the latest one of its lock that was
-// visited
-// before, the match of the earlier one.
+// The earlier of events a and b.
+fn earlier(a: u16, b: u16) -> u16
+    ensures { λ r. ⌜ r ≡ min a b ⌝ }
+{
+    if a < b {
+        return a;
+    }
+    b
+}
+
+// Wants the match of acquire e, which is an event of the same task.
+fn want_match(records: &[u8], matches: &[u16], want: &mut [u16], e: u16)
+    requires { ⌜ (1 ≤ e) × (2 * e ≤ length (now records)) × (e < length (now matches))
+        × (getD (now matches) e 0 ≡ matching (decodeAll (now records)) e) × (length (now want) ≡ tasks) ⌝ }
+    ensures { λ r. ⌜ now (want .exit) ≡ raised (now (want .entry))
+        (task (decodeAll (now (records .entry))) e) (matching (decodeAll (now (records .entry))) e) ⌝ }
+{
+    let at = e as usize;
+    raise(want, recording::task(records, at) as usize, matches[at]);
+}
+
+// Visits read f: wants its writer, where it has one.
+fn visit_read(records: &[u8], writers: &[u16], want: &mut [u16], f: u16)
+    requires { ⌜ (1 ≤ f) × (2 * f ≤ length (now records)) × (f < length (now writers))
+        × (getD (now writers) f 0 ≡ writer (decodeAll (now records)) f) × (length (now want) ≡ tasks) ⌝ }
+    ensures { λ r. ⌜ now (want .exit)
+        ≡ wantedWriter (decodeAll (now (records .entry))) (now (want .entry)) f ⌝ }
+{
+    let w = writers[f as usize];
+    if w == 0 {
+        return;
+    }
+    raise(want, recording::task(records, w as usize) as usize, w);
+}
+
+// Visits acquire f: notes it where it is later than the latest one of its lock that was visited before, and
+// wants the match of the earlier of the two, where there are two.
+fn visit_acquire(records: &[u8], matches: &[u16], want: &mut [u16], latest: &mut [u16], f: u16)
+    requires { ⌜ (1 ≤ f) × (2 * f ≤ length (now records)) × (f < length (now matches))
+        × ((e : ℕ) → 1 ≤ e → e ≤ length (decodeAll (now records))
+        → getD (now matches) e 0 ≡ matching (decodeAll (now records)) e)
+        × (length (now want) ≡ tasks) × (length (now latest) ≡ locks)
+        × (object (decodeAll (now records)) f < locks) ⌝ }
+    ensures wanted { λ r. ⌜ now (want .exit) ≡ wantedEarlier (decodeAll (now (records .entry)))
+        (now (want .entry)) (getD (now (latest .entry)) (object (decodeAll (now (records .entry))) f) 0) f ⌝ }
+    ensures latest { λ r. ⌜ now (latest .exit)
+        ≡ raised (now (latest .entry)) (object (decodeAll (now (records .entry))) f) f ⌝ }
+{
+    let l = recording::object(records, f as usize) as usize;
+    let top = latest[l];
+    raise(latest, l, f);
+    if top == 0 {
+        return;
+    }
+    want_match(records, matches, want, earlier(top, f));
+}
+
+// Visits event f by its operation, as a read or as an acquire. A write or a release changes nothing.
 fn visit(
     records: &[u8],
     writers: &[u16],
@@ -42,33 +97,14 @@ fn visit(
     ensures latest { λ r. ⌜ now (latest .exit)
         ≡ latestWith (decodeAll (now (records .entry))) (now (latest .entry)) f ⌝ }
 {
-    let at = f as usize;
-    let op = recording::operation(records, at);
+    let op = recording::operation(records, f as usize);
     if op == 0 {
-        let w = writers[at];
-        if w == 0 {
-            return;
-        }
-        raise(want, recording::task(records, w as usize) as usize, w);
+        visit_read(records, writers, want, f);
         return;
     }
-    if op != 2 {
-        return;
+    if op == 2 {
+        visit_acquire(records, matches, want, latest, f);
     }
-    let l = recording::object(records, at) as usize;
-    let top = latest[l];
-    if top == 0 {
-        latest[l] = f;
-        return;
-    }
-    if top < f {
-        latest[l] = f;
-        let m = matches[top as usize];
-        raise(want, recording::task(records, top as usize) as usize, m);
-        return;
-    }
-    let m = matches[at];
-    raise(want, recording::task(records, at) as usize, m);
 }
 
 // A turn of task t: the frontier moves to its wanted event, and each event that it passes is visited.
@@ -99,8 +135,7 @@ fn turn(
 }
 
 // Advances the frontier to that of the smallest closed set with the wanted events, task by task, until none
-// has
-// more to reach. A closed set is extended the same way: with further events wanted.
+// has more to reach. A closed set is extended the same way: with further events wanted.
 pub fn advance(
     records: &[u8],
     predecessors: &[u16],

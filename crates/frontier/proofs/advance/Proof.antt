@@ -1,6 +1,5 @@
 -- `frontier::advance` meets its contract: each turn brings the frontier on, and the tasks before t have
--- nothing
--- more to reach. Assumes nothing.
+-- nothing more to reach. Assumes nothing.
 use Prim.Native.Nat.{_+_, _-_, _*_}
 use mathlib.Core.Path.{sym, _∙_}
 use native.Mathlib.Omega.{arith}

@@ -1,170 +1,133 @@
 -- `frontier::turn` meets its contract: the frontier is on its way from the wanted event to the old one.
 -- Assumes nothing.
+use Prim.Native.Nat.{_≤_, _<_}
 use mathlib.Core.Path.{_≡_, refl, sym, _∙_}
 use native.Mathlib.Omega.{arith}
-use lib.ListN.{getD, length-set}
+use lib.ListN.{length, getD, length-set}
+use Rattle.model.specs.Relations.{predecessor}
 use Rattle.model.specs.Recording.{decodeAll}
 use Rattle.laws.proofs.Trace.{decodeAll-length}
 use Rattle.laws.proofs.Relations.{predecessor-below}
 use Rattle.laws.proofs.Questions.{events-sound}
-use Rattle.frontier.proofs.Turning.{
-  Turning,
-  turning-begin,
-  turning-step,
-  turning-end,
-  turning-acquires,
-}
+use Rattle.frontier.proofs.Turning.{Turning, turning-begin, turning-step, turning-end}
+use Rattle.frontier.proofs.Turning.{turning-acquires}
 use Rattle.frontier.proofs.turn.Statement.{statement}
 use Rattle.frontier.proofs.turn.Tie as tie
 
 abbrev Inv-loop : tie.InvT-loop
 Inv-loop records predecessors writers matches front want₀ latest₀ t old f₀ want latest f =
-    Turning (decodeAll records) front want₀ want latest t old f × (f₀ ≡ getD want₀ t 0)
+    Turning (decodeAll records) front want₀ want latest t old f
 
 abbrev μ-loop : tie.MeasureT-loop
 μ-loop records predecessors writers matches front want₀ latest₀ t old f₀ want latest f = f
 
+-- Both tables have the task.
+inside : (c : tie.Start Inv-loop μ-loop)
+    → (c .args .t < length (c .args .front .now)) × (c .args .t < length (c .args .want .now))
+inside c = omega (arith, c .pre .4, c .pre .3 .front-ok .long, c .pre .3 .want-ok .long)
+
+-- Where the turn began.
+abbrev start : tie.At-loop Inv-loop μ-loop → tie.Start Inv-loop μ-loop
+start c = c .before .before .before .before .before .before .before .before .before .before
+
+-- The event to be visited,
+event : (c : tie.In-loop Inv-loop μ-loop) → (1 ≤ c .before .loop .f)
+    × (c .before .loop .f ≤ length (decodeAll (start (c .before) .args .records .now)))
+event c = c .before .loop .inv .next (c .loop-test .taken) .1 .event
+
+-- which the table has,
+tabled : (c : tie.In-loop Inv-loop μ-loop)
+    → c .before .loop .f < length (start (c .before) .args .predecessors .now)
+tabled c =
+    let s = start (c .before) in
+    omega (arith, event c, decodeAll-length (s .args .records .now), s .pre .0, s .pre .2 .predecessor-long)
+
+-- with its predecessor.
+next : (c : tie.In-loop Inv-loop μ-loop)
+    → getD (start (c .before) .args .predecessors .now) (c .before .loop .f) 0
+    ≡ predecessor (decodeAll (start (c .before) .args .records .now)) (c .before .loop .f)
+next c = start (c .before) .pre .2 .predecessor-at _ (event c .0) (event c .1)
+
 mul-old : tie.Need-mul-old Inv-loop μ-loop
-mul-old c =
-    let s = c .before .before .before .before .before .before .before in omega
-    (arith, s .pre .4, s .pre .3 .front-ok .long)
+mul-old c = omega (arith, inside (c .before .before .before .before .before .before .before))
 
 slice-read-old : tie.Need-slice-read-old Inv-loop μ-loop
-slice-read-old c =
-    let s = c .before .before .before .before .before .before .before .before in omega
-    (arith, s .pre .4, s .pre .3 .front-ok .long)
+slice-read-old c = omega (arith, inside (c .before .before .before .before .before .before .before .before))
 
 mul-f : tie.Need-mul-f Inv-loop μ-loop
-mul-f c =
-    let s = c .before .before .before .before .before .before .before .before in omega
-    (arith, s .pre .4, s .pre .3 .want-ok .long)
+mul-f c = omega (arith, inside (c .before .before .before .before .before .before .before .before))
 
 slice-read-f : tie.Need-slice-read-f Inv-loop μ-loop
 slice-read-f c =
-    let s = c .before .before .before .before .before .before .before .before .before in omega
-    (arith, s .pre .4, s .pre .3 .want-ok .long)
+    omega (arith, inside (c .before .before .before .before .before .before .before .before .before))
 
 mul-front : tie.Need-mul-front Inv-loop μ-loop
 mul-front c =
-    let s = c .before .before .before .before .before .before .before .before .before in omega
-    (arith, s .pre .4, s .pre .3 .front-ok .long)
+    omega (arith, inside (c .before .before .before .before .before .before .before .before .before))
 
 slice-write-front : tie.Need-slice-write-front Inv-loop μ-loop
 slice-write-front c =
-    let s = c .before .before .before .before .before .before .before .before .before in omega
-    (arith, s .pre .4, s .pre .3 .front-ok .long)
+    omega (arith, inside (c .before .before .before .before .before .before .before .before .before))
 
 loop-holds : tie.Need-loop-holds Inv-loop μ-loop
 loop-holds c =
-    let s = c .before .before .before .before .before .before .before .before .before in (
-      turning-begin (decodeAll (s .args .records .now)) (s .args .front .now) (s .args .want .now)
-          (s .args .latest .now) (s .args .t) (s .pre .3) (s .pre .4) (s .pre .5),
-      refl,
-    )
+    let s = c .before .before .before .before .before .before .before .before .before in
+    turning-begin _ _ _ _ _ (s .pre .3) (s .pre .4) (s .pre .5)
 
 visit-requires : tie.Need-visit-requires Inv-loop μ-loop
 visit-requires c κs =
-    let s = c .before .before .before .before .before .before .before .before .before .before .before
-    .before .before in
-    let k = c .before .before .before .loop in
-    let σ = decodeAll (s .args .records .now) in
-    let at-f = k .inv .0 .next (c .before .before .loop-test .taken) .1 .event in (
-      at-f .0,
-      omega (arith, at-f, decodeAll-length (s .args .records .now)),
+    let i = c .before .before in
+    let s = start (i .before) in
+    let z = i .before .loop .inv .going in (
+      event i .0,
+      omega (arith, event i, decodeAll-length (s .args .records .now)),
       s .pre .0,
       s .pre .1,
-      k .inv .0 .going .want-ok .long,
+      z .want-ok .long,
       s .pre .2 .reading,
-      turning-acquires σ _ (k .want) (k .latest) (s .args .t) _ (k .f) (k .inv .0 .going),
+      turning-acquires _ _ _ _ _ _ _ z,
     )
 
 cast-f : tie.Need-cast-f Inv-loop μ-loop
-cast-f c =
-    let s = c .before .before .before .before .before .before .before .before .before .before .before
-    .before .before .before .before .before .before .before in
-    omega (
-      arith,
-      c .before .before .before .before .before .before .before .before .loop .inv .0 .small,
-      decodeAll-length (s .args .records .now),
-      s .pre .0,
-      s .pre .2 .predecessor-long,
-    )
+cast-f c = omega (arith, tabled (c .before .before .before .before .before .before .before))
 
 mul-f-2 : tie.Need-mul-f-2 Inv-loop μ-loop
-mul-f-2 c =
-    let s = c .before .before .before .before .before .before .before .before .before .before .before
-    .before .before .before .before .before .before .before in
-    omega (
-      arith,
-      c .before .before .before .before .before .before .before .before .loop .inv .0 .small,
-      decodeAll-length (s .args .records .now),
-      s .pre .0,
-      s .pre .2 .predecessor-long,
-    )
+mul-f-2 c = omega (arith, tabled (c .before .before .before .before .before .before .before))
 
 shared-slice-read-f : tie.Need-shared-slice-read-f Inv-loop μ-loop
 shared-slice-read-f c =
-    let s = c .before .before .before .before .before .before .before .before .before .before .before
-    .before .before .before .before .before .before .before .before in
-    omega (
-      arith,
-      c .before .before .before .before .before .before .before .before .before .loop .inv .0
-          .small,
-      decodeAll-length (s .args .records .now),
-      s .pre .0,
-      s .pre .2 .predecessor-long,
-    )
+    omega (arith, tabled (c .before .before .before .before .before .before .before .before))
 
 loop-less : tie.Need-loop-less Inv-loop μ-loop
 loop-less c =
-    let s = c .before .before .before .before .before .before .before .before .before .before .before
-    .before .before .before .before .before .before .before .before in
-    let k = c .before .before .before .before .before .before .before .before .before .loop in
-    let σ = decodeAll (s .args .records .now) in
-    let at-f = k .inv .0 .next (c .before .before .before .before .before .before .before .before
-    .loop-test .taken) .1 .event in
-    let p = s .pre .2 .predecessor-at (k .f) (at-f .0) (at-f .1) in
-    omega (arith, p, predecessor-below σ (k .f), at-f)
+    let i = c .before .before .before .before .before .before .before .before in
+    let low = predecessor-below (decodeAll (start (i .before) .args .records .now)) (i .before .loop .f) in
+    omega (arith, next i, low, event i)
 
 loop-again : tie.Need-loop-again Inv-loop μ-loop
 loop-again c =
-    let s = c .before .before .before .before .before .before .before .before .before .before .before
-    .before .before .before .before .before .before .before .before in
-    let k = c .before .before .before .before .before .before .before .before .before .loop in
-    let σ = decodeAll (s .args .records .now) in
-    let at-f = k .inv .0 .next (c .before .before .before .before .before .before .before .before
-    .loop-test .taken) .1 .event in
-    let p = s .pre .2 .predecessor-at (k .f) (at-f .0) (at-f .1) in
-    let v = c .before .before .before .before .before .visit .ensures in (
-      rw (p, v .0, v .1)
-          (turning-step σ (events-sound (s .args .records .now) (s .pre .1)) _ _ (k .want) (k .latest)
-          (s .args .t) _ (k .f)
-          (k .inv .0) (c .before .before .before .before .before .before .before .before .loop-test .taken)),
-      k .inv .1,
-    )
+    let i = c .before .before .before .before .before .before .before .before in
+    let s = start (i .before) in
+    let v = c .before .before .before .before .before .visit .ensures in
+    rw (next i, v .0, v .1)
+    (turning-step _ (events-sound (s .args .records .now) (s .pre .1)) _ _ _ _ _ _ _
+    (i .before .loop .inv) (i .loop-test .taken))
 
 same-length : tie.Need-same-length Inv-loop μ-loop
-same-length c =
-    let s = c .before .before .before .before .before .before .before .before .before .before .before in
-    length-set (s .args .front .now) (s .args .t) _
+same-length c = length-set (start (c .before) .args .front .now) (start (c .before) .args .t) _
 
 same-length-2 : tie.Need-same-length-2 Inv-loop μ-loop
 same-length-2 c =
-    let s = c .before .before .before .before .before .before .before .before .before .before .before in c
-    .before .loop .inv .0 .going .want-ok .long ∙ sym (s .pre .3 .want-ok .long)
+    let s = start (c .before) in
+    c .before .loop .inv .going .want-ok .long ∙ sym (s .pre .3 .want-ok .long)
 
 same-length-3 : tie.Need-same-length-3 Inv-loop μ-loop
 same-length-3 c =
-    let s = c .before .before .before .before .before .before .before .before .before .before .before in c
-    .before .loop .inv .0 .going .latest-long ∙ sym (s .pre .3 .latest-long)
+    let s = start (c .before) in
+    c .before .loop .inv .going .latest-long ∙ sym (s .pre .3 .latest-long)
 
 returns : tie.Need-returns Inv-loop μ-loop
-returns c =
-    let s = c .before .before .before .before .before .before .before .before .before .before .before in
-    let k = c .before .loop in
-    turning-end (decodeAll (s .args .records .now)) _ (s .args .want .now) (k .want) (k .latest)
-    (s .args .t) _ (k .f)
-    (s .args .front .now) (k .inv .0) (c .loop-test .left) refl
+returns c = turning-end _ _ _ _ _ _ _ _ _ (c .before .loop .inv) (c .loop-test .left) refl
 
 pub turn-spec : {M : Type 1} → statement M
 turn-spec =

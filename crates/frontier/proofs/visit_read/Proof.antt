@@ -1,0 +1,60 @@
+-- `frontier::visit_read` meets its contract: the table has the writer, or 0. Assumes nothing.
+use mathlib.Core.Path.{sym}
+use native.Mathlib.Omega.{arith}
+use borrow.Author.Needs.{needs}
+use Rattle.frontier.proofs.Leaves.{writer-none, writer-some, writer-in}
+use Rattle.frontier.proofs.visit_read.Statement.{statement}
+use Rattle.frontier.proofs.visit_read.Tie as tie
+
+mul-w : tie.Need-mul-w
+mul-w c = search needs
+
+shared-slice-read-w : tie.Need-shared-slice-read-w
+shared-slice-read-w c = search needs
+
+returns : tie.Need-returns
+returns c =
+    let s = c .before .before .before .before .before in
+    sym (writer-none _ _ _ (s .pre .3) (c .if1 .taken))
+
+cast-task : tie.Need-cast-task
+cast-task c =
+    let s = c .before .before .before .before .before .before in
+    omega (arith, c .before .before .shared-slice-known3 .given (s .args .f))
+
+task-requires : tie.Need-task-requires
+task-requires c κs =
+    let s = c .before .before .before .before .before .before in (
+      omega (arith, c .before .if1 .left),
+      writer-in (s .args .records .now) (s .args .f) (s .pre .0, s .pre .1) _ (s .pre .3),
+    )
+
+cast-raise : tie.Need-cast-raise
+cast-raise c = search needs
+
+raise-requires : tie.Need-raise-requires
+raise-requires c κs = search needs
+
+same-length : tie.Need-same-length
+same-length c = search needs
+
+returns-2 : tie.Need-returns-2
+returns-2 c =
+    let s = c .before .before .before .before .before .before .before .before .before .before in
+    let b = c .before .before .before .before .before in
+    rw (writer-some _ _ _ (s .pre .3) (b .if1 .left), ← (c .before .before .before .task .ensures .1))
+    (c .before .before .raise .ensures)
+
+pub visit-read-spec : {M : Type 1} → statement M
+visit-read-spec =
+    tie.close
+    (tie.spec
+    mul-w
+    shared-slice-read-w
+    returns
+    cast-task
+    task-requires
+    cast-raise
+    raise-requires
+    same-length
+    returns-2)
