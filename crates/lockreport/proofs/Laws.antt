@@ -1,37 +1,17 @@
--- Laws of stored bytes and of digits, and of the entries of a listing. Assumes nothing.
-use Prim.Native.Nat.{ℕ, _+_, _-_, _*_, _/_, _%_, _^_, _≤_, _<_}
+-- Laws of the entries of a listing. Assumes nothing.
+use Prim.Native.Nat.{ℕ, _+_, _-_, _*_, _/_, _%_, _≤_, _<_}
 use mathlib.Core.Path.{_≡_, sym, ap, _∙_}
-use mathlib.Core.Logic.{⊎-elim}
 use mathlib.Core.List.{List, [], _∷_, _++_}
 use native.Mathlib.Omega.{arith}
-use native.Mathlib.Nat.{pow-le-pow-right, add-zero}
+use native.Mathlib.Nat.{add-zero}
 use lib.ListN.{length, getD, take, drop, length-drop, length-append}
 use lib.Seq.{take-append-seam, drop-append-seam, drop-drop, getD-drop}
-use Rattle.io.specs.Digits.{Fewest}
 use Rattle.model.specs.declared.Listed.{Listed}
 use Rattle.model.specs.Bytes.{numbers, encode}
 use Rattle.model.specs.Calls.List.{entries, listing, list, listOut}
-use Rattle.laws.proofs.Tests.{at-most?}
 use Rattle.laws.proofs.Bytes.{numbers-at, encode-length}
 use Rattle.laws.proofs.Calls.{entries-length, list-answer, listOut-written}
 use Rattle.lockreport.specs.Text.{Entries}
-
--- ---- text
-
--- A number that m digits hold has no more of them.
-pub digits-le : (n k m : ℕ) → 1 ≤ m → n < 10 ^ m → Fewest 10 1 n k → k ≤ m
-digits-le n k m h l few = ⊎-elim (λ (y : k ≤ m). y) over (at-most? k m)
-  where
-    below : m < k → m ≤ k - 1
-    below y = omega arith
-
-    over : m < k → k ≤ m
-    over y =
-        let low : 10 ^ (k - 1) ≤ n = few .2 (omega arith) in
-        let high : 10 ^ m ≤ 10 ^ (k - 1) = pow-le-pow-right {n = 10} (omega arith) (below y) in
-        absurd (omega arith)
-
--- ---- entries
 
 module _ (b : List ℕ) (i : ℕ) (p : List ℕ) (ps : List (List ℕ)) (q : drop (2 * i) b ≡ entries (p ∷ ps)) where
   -- Where an entry begins, its size stands,

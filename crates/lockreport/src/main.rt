@@ -1,11 +1,9 @@
 // The program lockreport: lists the deadlocks of the recording on standard input, and prints them as text.
 // `text` is what is printed, made as a whole before it is written; its lines are executed and compared.
-ghost use Prim.Native.Nat.{_+_, _*_, _-_, _/_, _≤_, _<_};
+ghost use Prim.Native.Nat.{_+_, _*_, _/_, _≤_, _<_};
 ghost use mathlib.Core.Path.{_≡_};
 ghost use lib.ListN.{length, drop};
-ghost use lib.Seq.{sets};
 ghost use Rattle.io.specs.Counts.{Counts};
-ghost use Rattle.io.specs.Digits.{digits, Fewest};
 ghost use Rattle.lockreport.specs.Text.{Entries, textLength};
 use libc::STDIN_FILENO;
 use libc::STDOUT_FILENO;
@@ -16,38 +14,12 @@ const INPUT: usize = 8193;
 // Enough for the text of a listing of 65,536 bytes: five bytes for each, and thirty for the last line.
 const TEXT: usize = 327710;
 
-// Puts bytes into the text from a position on: the position behind them.
-fn put(text: &mut [u8], at: usize, bytes: &[u8]) -> usize
-    requires { ⌜ at + length (now bytes) ≤ length (now text) ⌝ }
-    ensures { λ r. ⌜ (r ≡ at + length (now (bytes .entry)))
-        × (now (text .exit) ≡ sets (now (text .entry)) at (now (bytes .entry))) ⌝ }
-{
-    let mut i = 0;
-    while i < bytes.len() {
-        text[at + i] = bytes[i];
-        i = i + 1;
-    }
-    at + i
-}
-
-// Puts a number in decimal, in as few digits as hold it, of which there are at most twenty.
-fn put_decimal(text: &mut [u8], at: usize, n: u64) -> usize
-    requires { ⌜ at + 20 ≤ length (now text) ⌝ }
-    ensures { λ r. ⌜ (at ≤ r) × (r ≤ at + 20) × Fewest 10 1 n (r - at)
-        × (now (text .exit) ≡ sets (now (text .entry)) at (digits 10 (r - at) n)) ⌝ }
-{
-    let mut spelled = [0u8; 20];
-    let count = io::decimal(n, &mut spelled);
-    put(text, at, &spelled[..count])
-}
-
 // Puts a space and an event number, which has at most five digits.
 fn put_event(text: &mut [u8], at: usize, event: u16) -> usize
     requires { ⌜ at + 21 ≤ length (now text) ⌝ }
     ensures { λ r. ⌜ r ≤ at + 6 ⌝ }
 {
-    let spaced = put(text, at, b" ");
-    put_decimal(text, spaced, event as u64)
+    printing::put_spaced(text, at, event as u64)
 }
 
 // Puts the event numbers of a pattern, each from two bytes.
@@ -69,9 +41,9 @@ fn put_pattern(text: &mut [u8], at: usize, events: &[u8]) -> usize
     requires { ⌜ at + 3 * length (now events) + 29 ≤ length (now text) ⌝ }
     ensures { λ r. ⌜ r ≤ at + 3 * length (now (events .entry)) + 9 ⌝ }
 {
-    let named = put(text, at, b"deadlock");
+    let named = printing::put(text, at, b"deadlock");
     let end = put_events(text, named, events);
-    put(text, end, b"\n")
+    printing::put(text, end, b"\n")
 }
 
 // The place behind the entry that begins at place i, in numbers of two bytes: its size stands at i.
@@ -106,9 +78,9 @@ fn put_listing(text: &mut [u8], entries: &[u8], patterns: u64) -> usize
     ensures { λ r. ⌜ r ≤ length (now (text .entry)) ⌝ }
 {
     let listed = put_patterns(text, entries);
-    let named = put(text, listed, b"listed ");
-    let counted = put_decimal(text, named, patterns);
-    put(text, counted, b"\n")
+    let named = printing::put(text, listed, b"listed ");
+    let counted = printing::put_decimal(text, named, patterns);
+    printing::put(text, counted, b"\n")
 }
 
 // Puts the line of a refusal: "refused", its number, "at" and the event, in at most 53 bytes.
@@ -116,11 +88,11 @@ fn put_refusal(text: &mut [u8], refusal: u64, event: u64) -> usize
     requires { ⌜ 53 ≤ length (now text) ⌝ }
     ensures { λ r. ⌜ r ≤ length (now (text .entry)) ⌝ }
 {
-    let named = put(text, 0, b"refused ");
-    let numbered = put_decimal(text, named, refusal);
-    let joined = put(text, numbered, b" at ");
-    let placed = put_decimal(text, joined, event);
-    put(text, placed, b"\n")
+    let named = printing::put(text, 0, b"refused ");
+    let numbered = printing::put_decimal(text, named, refusal);
+    let joined = printing::put(text, numbered, b" at ");
+    let placed = printing::put_decimal(text, joined, event);
+    printing::put(text, placed, b"\n")
 }
 
 // Puts the lines for a recording, whose listing with size 0 gets an output of 65,536 bytes.

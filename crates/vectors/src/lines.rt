@@ -73,8 +73,8 @@ fn keep(line: &mut [u8], held: usize, piece: &[u8]) -> usize
     held + bytes::copy(&piece[..count], &mut line[held..])
 }
 
-// Takes the next line, up to a line feed or the end of the input; of a line longer than its buffer, as much
-// is held as has room.
+// Takes the next line, up to a line feed or the end of the input. Of a line longer than its buffer, its front
+// is held, as much as has room, and the rest is passed over.
 pub fn next(input: Input, chunk: &mut [u8], line: &mut [u8]) -> Input
     requires { ⌜ Standing input (length (now chunk)) × (length (now chunk) ≤ 65536) ⌝ }
     ensures { λ r. ⌜ Standing r (length (now (chunk .exit))) × (r .held ≤ length (now (line .exit)))

@@ -3,42 +3,15 @@ ghost use Prim.Native.Nat.{_+_, _*_, _≤_, _<_};
 ghost use mathlib.Core.Path.{_≡_};
 ghost use lib.ListN.{length};
 
-// Puts bytes as they are.
-fn put(text: &mut [u8], at: usize, word: &[u8]) -> usize
-    requires { ⌜ at + length (now word) ≤ length (now text) ⌝ }
-    ensures { λ r. ⌜ r ≡ at + length (now (word .entry)) ⌝ }
-{
-    at + bytes::copy(word, &mut text[at..])
-}
-
-// Puts a number in decimal, in at most twenty digits.
-fn put_decimal(text: &mut [u8], at: usize, n: u64) -> usize
-    requires { ⌜ at + 20 ≤ length (now text) ⌝ }
-    ensures { λ r. ⌜ r ≤ at + 20 ⌝ }
-{
-    let mut spelled = [0u8; 20];
-    let count = io::decimal(n, &mut spelled);
-    put(text, at, &spelled[..count])
-}
-
-// Puts a space and a number.
-fn put_number(text: &mut [u8], at: usize, n: u64) -> usize
-    requires { ⌜ at + 21 ≤ length (now text) ⌝ }
-    ensures { λ r. ⌜ r ≤ at + 21 ⌝ }
-{
-    let spaced = put(text, at, b" ");
-    put_decimal(text, spaced, n)
-}
-
 // Puts one or more numbers, with a space between them.
 fn put_numbers(text: &mut [u8], at: usize, numbers: &[u64]) -> usize
     requires { ⌜ (1 ≤ length (now numbers)) × (at + 21 * length (now numbers) ≤ length (now text)) ⌝ }
     ensures { λ r. ⌜ r ≤ at + 21 * length (now (numbers .entry)) ⌝ }
 {
-    let mut end = put_decimal(text, at, numbers[0]);
+    let mut end = printing::put_decimal(text, at, numbers[0]);
     let mut i = 1;
     while i < numbers.len() {
-        end = put_number(text, end, numbers[i]);
+        end = printing::put_spaced(text, end, numbers[i]);
         i = i + 1;
     }
     end
@@ -74,9 +47,9 @@ fn put_bytes(text: &mut [u8], at: usize, bytes: &[u8]) -> usize
     ensures { λ r. ⌜ r ≤ at + 2 * length (now (bytes .entry)) + 2 ⌝ }
 {
     if bytes.len() == 0 {
-        return put(text, at, b" -");
+        return printing::put(text, at, b" -");
     }
-    let spaced = put(text, at, b" ");
+    let spaced = printing::put(text, at, b" ");
     put_digits(text, spaced, bytes)
 }
 
@@ -85,7 +58,7 @@ pub fn put_bad(text: &mut [u8], at: usize) -> usize
     requires { ⌜ at + 12 ≤ length (now text) ⌝ }
     ensures { λ r. ⌜ r ≡ at + 12 ⌝ }
 {
-    put(text, at, b"bad request\n")
+    printing::put(text, at, b"bad request\n")
 }
 
 // Puts the line of an answer that lends no bytes.
@@ -94,7 +67,7 @@ pub fn put_answer(text: &mut [u8], at: usize, numbers: &[u64]) -> usize
     ensures { λ r. ⌜ r ≤ at + 21 * length (now (numbers .entry)) + 1 ⌝ }
 {
     let told = put_numbers(text, at, numbers);
-    put(text, told, b"\n")
+    printing::put(text, told, b"\n")
 }
 
 // Puts the line of an answer that lends bytes.
@@ -105,5 +78,5 @@ pub fn put_lending(text: &mut [u8], at: usize, numbers: &[u64], bytes: &[u8]) ->
 {
     let told = put_numbers(text, at, numbers);
     let lent = put_bytes(text, told, bytes);
-    put(text, lent, b"\n")
+    printing::put(text, lent, b"\n")
 }

@@ -1,5 +1,4 @@
--- `vectors::answer_line` meets its contract: a line that does not fill its buffer is cut from it. Assumes
--- nothing.
+-- `vectors::answer_line` meets its contract: a line shorter than its buffer is cut from it. Assumes nothing.
 use native.Mathlib.Omega.{arith}
 use lib.ListN.{length-take}
 use Rattle.io.proofs.Counting.{counts}

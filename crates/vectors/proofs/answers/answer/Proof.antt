@@ -1,5 +1,4 @@
--- `vectors::answers::answer` meets its contract: what the arguments spell fits their
--- buffers. Assumes nothing.
+-- `vectors::answers::answer` meets its contract: what arguments spell fits their buffers. Assumes nothing.
 use native.Mathlib.Omega.{arith}
 use lib.ListN.{length-take}
 use Rattle.io.proofs.Counting.{counts}

@@ -1,5 +1,4 @@
--- `vectors::spelling::decode_digits` is safe and ends: a digit is added where the sum has 64 bits.
--- Assumes nothing.
+-- `vectors::spelling::decode_digits` is safe and ends: a sum beyond 64 bits is never made. Assumes nothing.
 use Prim.Native.Nat.{_-_, _^_, _≤_, _<_}
 use borrow.Author.Needs.{needs}
 use lib.ListN.{length}

@@ -1,5 +1,4 @@
--- `vectors::text::put_numbers` meets its contract: each number passed has taken at most 21 bytes. Assumes
--- nothing.
+-- `vectors::text::put_numbers` meets its contract: each number takes at most 21 bytes. Assumes nothing.
 use Prim.Native.Nat.{_+_, _*_, _-_, _≤_}
 use mathlib.Core.Path.{_≡_}
 use borrow.Author.Needs.{needs}
@@ -23,14 +22,14 @@ put-decimal-requires c κs = search needs
 loop-holds : tie.Need-loop-holds Inv-loop μ-loop
 loop-holds c = search needs
 
-mul-put-number : tie.Need-mul-put-number Inv-loop μ-loop
-mul-put-number c = search needs
+mul-put-spaced : tie.Need-mul-put-spaced Inv-loop μ-loop
+mul-put-spaced c = search needs
 
-shared-slice-read-put-number : tie.Need-shared-slice-read-put-number Inv-loop μ-loop
-shared-slice-read-put-number c = search needs
+shared-slice-read-put-spaced : tie.Need-shared-slice-read-put-spaced Inv-loop μ-loop
+shared-slice-read-put-spaced c = search needs
 
-put-number-requires : tie.Need-put-number-requires Inv-loop μ-loop
-put-number-requires c κs = search needs
+put-spaced-requires : tie.Need-put-spaced-requires Inv-loop μ-loop
+put-spaced-requires c κs = search needs
 
 add-i : tie.Need-add-i Inv-loop μ-loop
 add-i c = search needs
@@ -56,9 +55,9 @@ put-numbers-spec =
     shared-slice-read-put-decimal
     put-decimal-requires
     loop-holds
-    mul-put-number
-    shared-slice-read-put-number
-    put-number-requires
+    mul-put-spaced
+    shared-slice-read-put-spaced
+    put-spaced-requires
     add-i
     loop-less
     loop-again

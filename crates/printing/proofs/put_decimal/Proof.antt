@@ -1,11 +1,11 @@
--- `lockreport::put_decimal` meets its contract: the digits that were spelled are put. Assumes nothing.
+-- `printing::put_decimal` meets its contract: the digits that were spelled are put. Assumes nothing.
 use Prim.Native.Nat.{_-_, _≤_}
 use mathlib.Core.Path.{_≡_, _∙_}
 use native.Mathlib.Omega.{arith}
 use borrow.Author.Needs.{needs}
-use Rattle.lockreport.proofs.Laws.{digits-le}
-use Rattle.lockreport.proofs.put_decimal.Statement.{statement}
-use Rattle.lockreport.proofs.put_decimal.Tie as tie
+use Rattle.printing.proofs.Digits.{digits-le}
+use Rattle.printing.proofs.put_decimal.Statement.{statement}
+use Rattle.printing.proofs.put_decimal.Tie as tie
 
 -- Twenty digits hold any number.
 few : (c : tie.After-decimal) → c .decimal .result ≤ 20
