@@ -1,12 +1,12 @@
 -- Laws of a part that runs to the end, `&s[a..]` and `&mut s[a..]`, and of `sets l i vs`, the list l with vs
 -- stored from i on. Assumes nothing.
-use Prim.Native.Nat.{ℕ, suc, _+_, _-_, _≤_, _<_}
+use Prim.Native.Nat.{ℕ, suc, _+_, _-_, _≤_}
 use mathlib.Core.Path.{_≡_, sym, ap, ap₂, _∙_}
 use mathlib.Core.List.{List, [], _∷_, _++_, append-nil}
 use native.Mathlib.Omega.{arith}
-use native.Mathlib.Nat.{zero-add, add-zero, add-suc, le-of-eq, le-add-right}
-use lib.ListN.{length, getD, take, drop, set, length-take, length-drop, drop-of-length-le, take-append-drop}
-use lib.Seq.{sets, sets-eq, take-suc, take-all, take-set-le, drop-set-add}
+use native.Mathlib.Nat.{zero-add, add-zero, add-suc, le-of-eq, le-refl, le-add-right}
+use lib.ListN.{length, take, drop, set, length-drop, drop-of-length-le, take-append-drop}
+use lib.Seq.{sets, sets-eq, take-all, take-set-le, drop-set-add}
 use Rattle.model.specs.Bytes.{written}
 
 module _ {A : Type 0} where
@@ -49,18 +49,14 @@ module _ {A : Type 0} where
       ∙ ap (λ (t : List A). take a l ++ t) (h ∙ ap (λ (t : List A). sets t 0 ys) (part-from a l))
       ∙ sets-drop a l 0 ys ∙ ap (λ (k : ℕ). sets l k ys) (add-zero a)
 
--- One element more of a list is stored.
-pub sets-more : (l xs : List ℕ) (a i : ℕ) → i < length xs
-    → set (sets l a (take i xs)) (a + i) (getD xs i 0) ≡ sets l a (take (i + 1) xs)
-sets-more l xs a i h =
-    let size : length (take i xs) ≡ i = omega (arith, length-take i xs) in
-    let q : i + 1 ≡ suc i = omega arith in
-    rw (q, take-suc xs i 0 h)
-    (ap (λ (k : ℕ). set (sets l a (take i xs)) (a + k) (getD xs i 0)) (sym size)
-    ∙ sets-append l a (take i xs) (getD xs i 0 ∷ []))
-
 -- Stores at the front of an output that has room.
 pub sets-written : (bs out : List ℕ) → length bs ≤ length out → sets out 0 bs ≡ written bs out
 sets-written bs out h =
     let room : 0 + length bs ≤ length out = omega arith in
     sets-eq bs out 0 room ∙ ap (λ (n : ℕ). bs ++ drop n out) (zero-add (length bs))
+
+-- What a copy leaves is stored at the front.
+pub sets-copied : (src dst left : List ℕ) → length src ≤ length dst
+    → left ≡ take (length src) src ++ drop (length src) dst → left ≡ sets dst 0 src
+sets-copied src dst left h q =
+    q ∙ rw (take-all (length src) src (le-refl (length src))) (sym (sets-written src dst h))

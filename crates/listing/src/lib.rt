@@ -17,18 +17,6 @@ ghost use Rattle.listing.specs.Open.{Ready};
 ghost use Rattle.listing.specs.Delivered.{Delivered};
 use entries::Found;
 
-// Copies the first `count` bytes.
-fn copy(out: &mut [u8], from: &[u8], count: usize)
-    requires { ⌜ (count ≤ length (now out)) × (count ≤ length (now from)) ⌝ }
-    ensures { λ r. ⌜ now (out .exit) ≡ sets (now (out .entry)) 0 (take count (now (from .entry))) ⌝ }
-{
-    let mut i = 0;
-    while i < count {
-        out[i] = from[i];
-        i = i + 1;
-    }
-}
-
 // Lists the deadlocks of at most `largest` events into the output, where all their entries fit it; else it
 // writes nothing. Only a listing of more than 65,536 bytes is searched for twice.
 fn deliver(
@@ -66,7 +54,7 @@ fn deliver(
     }
     let bytes = found.bytes;
     if bytes <= 65536 {
-        copy(out, &buffer, bytes);
+        bytes::copy(&buffer[..bytes], out);
         return found;
     }
     search::search_all(

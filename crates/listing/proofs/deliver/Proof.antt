@@ -1,8 +1,12 @@
 -- `listing::deliver` meets its contract: the entries are copied, or found again, or exceed the room. Assumes
 -- nothing.
 use Prim.Native.Nat.{ℕ, _≤_}
+use mathlib.Core.Path.{sym}
+use native.Mathlib.Omega.{arith}
 use borrow.Author.Needs.{needs}
-use lib.ListN.{length, replicate, length-replicate}
+use lib.ListN.{length, take, replicate, length-replicate, length-take}
+use lib.Seq.{length-take-le}
+use Rattle.laws.proofs.Parts.{sets-copied}
 use Rattle.model.specs.Recording.{decodeAll}
 use Rattle.model.specs.Listing.{deadlocks}
 use Rattle.listing.proofs.Answers.{delivered-none, delivered-copied, delivered-again}
@@ -23,11 +27,20 @@ returns c =
     let ps = deadlocks (decodeAll b) (s .args .largest) in
     delivered-none ps (s .args .out .now) _ _ _ (c .before .before .search-all .ensures .1) (c .if1 .taken)
 
+array-share-prefix-buffer : tie.Need-array-share-prefix-buffer
+array-share-prefix-buffer c = search needs
+
 slice-aggregate-copy : tie.Need-slice-aggregate-copy
-slice-aggregate-copy c = search needs
+slice-aggregate-copy c =
+    let f = c .before .before .before .before .search-all in
+    sym (length-take-le (f .result .bytes) (f .last .1 .1 .1 .1 .1 .1 .1 .1 .0)
+    (omega (arith, f .ensures .1 .long, f .kept, length-replicate {A = ℕ} 65536 0, c .before .if2 .taken)))
 
 copy-requires : tie.Need-copy-requires
-copy-requires c κs = search needs
+copy-requires c κs =
+    let f = c .before .before .before .before .before .search-all in
+    let size = length-take (f .result .bytes) (f .last .1 .1 .1 .1 .1 .1 .1 .1 .0) in
+    omega (arith, f .ensures .0 .bytes-le)
 
 same-length : tie.Need-same-length
 same-length c = search needs
@@ -44,9 +57,14 @@ returns-2 c =
     .before .before .before .before .before .before in
     let b = s .args .records .now in
     let ps = deadlocks (decodeAll b) (s .args .largest) in
-    let found = c .before .before .before .before .before .before .before .before .search-all .ensures in
-    delivered-copied ps (s .args .out .now) _ _ _ (found .1) (c .before .before .before .before .before
-    .before .if1 .left) (found .0 .bytes-le) (fits c) _ (c .before .before .copy .ensures)
+    let f = c .before .before .before .before .before .before .before .before .search-all in
+    let found = f .ensures in
+    let out = s .args .out .now in
+    let bytes = take (f .result .bytes) (f .last .1 .1 .1 .1 .1 .1 .1 .1 .0) in
+    let size = length-take (f .result .bytes) (f .last .1 .1 .1 .1 .1 .1 .1 .1 .0) in
+    let room : length bytes ≤ length out = omega (arith, found .0 .bytes-le) in
+    delivered-copied ps out _ _ _ (found .1) (c .before .before .before .before .before .before .if1 .left)
+    (found .0 .bytes-le) (fits c) _ (sets-copied bytes out _ room (c .before .before .copy .ensures .1))
 
 search-all-requires-2 : tie.Need-search-all-requires-2
 search-all-requires-2 c κs = search needs
@@ -72,6 +90,7 @@ deliver-spec =
     slice-aggregate-search-all
     search-all-requires
     returns
+    array-share-prefix-buffer
     slice-aggregate-copy
     copy-requires
     same-length

@@ -1,13 +1,12 @@
 -- `printing::put` meets its contract: the bytes are copied to the front of the text's rest. Assumes nothing.
 use Prim.Native.Nat.{ℕ, _+_, _-_, _≤_}
-use mathlib.Core.Path.{_≡_, sym, _∙_}
+use mathlib.Core.Path.{_≡_}
 use mathlib.Core.List.{List, _++_}
 use native.Mathlib.Omega.{arith}
-use native.Mathlib.Nat.{le-refl}
 use borrow.Author.Needs.{needs}
 use lib.ListN.{length, take, drop, length-take, length-drop}
-use lib.Seq.{sets, take-all}
-use Rattle.laws.proofs.Parts.{sets-part, sets-written}
+use lib.Seq.{sets}
+use Rattle.laws.proofs.Parts.{sets-part, sets-copied}
 use Rattle.printing.proofs.put.Statement.{statement}
 use Rattle.printing.proofs.put.Tie as tie
 
@@ -15,17 +14,11 @@ use Rattle.printing.proofs.put.Tie as tie
 copied : (at : ℕ) (text left bytes : List ℕ) → at + length bytes ≤ length text
     → left ≡ take (length bytes) bytes ++ drop (length bytes) (take (length text - at) (drop at text))
     → take at text ++ (left ++ drop (length text - at) (drop at text)) ≡ sets text at bytes
-copied at text left bytes h q =
-    sets-part at text left bytes (q ∙ rw all (sym (sets-written bytes rest room)))
-  where
-    rest : List ℕ
-    rest = take (length text - at) (drop at text)
-
-    all : take (length bytes) bytes ≡ bytes
-    all = take-all (length bytes) bytes (le-refl (length bytes))
-
-    room : length bytes ≤ length rest
-    room = omega (arith, length-take (length text - at) (drop at text), length-drop at text)
+copied at text left bytes h =
+    let rest = take (length text - at) (drop at text) in
+    let size = length-take (length text - at) (drop at text) in
+    let room : length bytes ≤ length rest = omega (arith, length-drop at text) in
+    λ q. sets-part at text left bytes (sets-copied bytes rest left room q)
 
 sub-copy : tie.Need-sub-copy
 sub-copy c = search needs
