@@ -130,7 +130,7 @@ pub fn attempt(
         (getD (now (path .entry)) 0 0) e r (now (grown .exit)) (now (newest .exit))
         × (r ≡ 3 → (now (grown .exit) ≡ now (grown .entry)) × (now (newest .exit) ≡ now (newest .entry))) ⌝ }
 {
-    if !deadlock::in_mask(back[k], recording::object(records, e) as u64) {
+    if !deadlock::lock_in_mask(records, back[k], e) {
         return 3;
     }
     grow(
@@ -163,7 +163,7 @@ pub fn exclude(records: &[u8], excluded: u64, met: u64, e: usize) -> u64
     if met != 2 {
         return excluded;
     }
-    with_task(records, excluded, e)
+    deadlock::with_task(records, excluded, e)
 }
 
 // The task whose frontier is kept after event e was attempted.
@@ -185,13 +185,5 @@ pub fn completes(records: &[u8], back: &[u64], e: usize) -> bool
     ensures { λ r. ⌜ r ≡ hasBit (getD (now (back .entry)) 0 0)
         (object (decodeAll (now (records .entry))) e) ⌝ }
 {
-    deadlock::in_mask(back[0], recording::object(records, e) as u64)
-}
-
-// The mask of tasks with that of event e.
-pub fn with_task(records: &[u8], tasks: u64, e: usize) -> u64
-    requires { ⌜ (1 ≤ e) × (2 * e ≤ length (now records)) ⌝ }
-    ensures { λ r. ⌜ r ≡ bitOr tasks (2 ^ (task (decodeAll (now (records .entry))) e)) ⌝ }
-{
-    tasks | (1 << (recording::task(records, e) as u64))
+    deadlock::lock_in_mask(records, back[0], e)
 }

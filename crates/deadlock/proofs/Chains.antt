@@ -1,5 +1,5 @@
 -- When an event fits a chain, by what code reads of it, and when numbers complete one. Assumes nothing.
-use Prim.Native.Nat.{ℕ, _+_, _%_, _^_, _≤_, _<_}
+use Prim.Native.Nat.{ℕ, _+_, _*_, _%_, _^_, _≤_, _<_}
 use mathlib.Core.Path.{_≡_, refl, sym, ap, _∙_}
 use mathlib.Core.Logic.{_⊎_, ⊎-elim, _≢_}
 use mathlib.Core.Bool.{Bool, true, false, _&&_, and-false, true≢false}
@@ -15,13 +15,16 @@ use Rattle.model.specs.Lists.{hasBit}
 use Rattle.model.specs.Bytes.{numbers, isWhole}
 use Rattle.model.specs.Pattern.{isPattern}
 use Rattle.model.specs.Trace.{Trace, at, task, object, isEvent, isAcquire}
+use Rattle.model.specs.Recording.{decodeAll}
 use Rattle.model.specs.Relations.{held}
 use Rattle.laws.specs.Chain.{Chain, signature, start, add, fits, completing, chainOf}
 use Rattle.laws.proofs.Tests.{parts, is-true, is-false, tests}
 use Rattle.laws.proofs.Bytes.{numbers-length}
 use Rattle.laws.proofs.Pattern.{isPattern-iff}
+use Rattle.laws.proofs.Trace.{isEvent-iff, decodeAll-length}
 use Rattle.laws.proofs.Faults.{isAcquire-op}
 use Rattle.laws.proofs.Search.{completing-cons, completing-end, pattern-completing}
+use Rattle.deadlock.specs.Judged.{joins}
 
 -- ---- one event
 
@@ -30,67 +33,79 @@ module _ (σ : Trace) (last tasks guards e : ℕ) {op : ℕ} (is-op : op ≡ at 
   pub fits-acquire : op ≢ 2 → false ≡ fits (signature σ) (chainOf 0 last tasks guards) e
   fits-acquire d = rw (isAcquire-op σ e is-op, ne-eqb op 2 d)
 
-  module _ {h l t : ℕ} (is-held : h ≡ held σ e) (is-lock : l ≡ object σ last) (is-task : t ≡ task σ e) where
+  module _ {h : ℕ} (is-held : h ≡ held σ e) where
     -- The last event's lock must be held.
-    pub fits-lock : hasBit h l ≡ false → false ≡ fits (signature σ) (chainOf 0 last tasks guards) e
-    fits-lock n = rw (← is-held, ← is-lock, n, and-false)
+    pub fits-lock : hasBit h (object σ last) ≡ false
+        → false ≡ fits (signature σ) (chainOf 0 last tasks guards) e
+    fits-lock n = rw (← is-held, n, and-false)
 
-    -- The task must be new.
-    pub fits-task : hasBit tasks t ≡ true → false ≡ fits (signature σ) (chainOf 0 last tasks guards) e
-    fits-task y = rw (← is-task, y, and-false)
+    module _ {t : ℕ} (is-task : t ≡ task σ e) where
+      -- The task must be new.
+      pub fits-task : hasBit tasks t ≡ true → false ≡ fits (signature σ) (chainOf 0 last tasks guards) e
+      fits-task y = rw (← is-task, y, and-false)
 
-    -- The rest is that no guard is held.
-    pub fits-guards : op ≡ 2 → hasBit h l ≡ true → hasBit tasks t ≡ false
-        → eqb (bitAnd guards h) 0 ≡ fits (signature σ) (chainOf 0 last tasks guards) e
-    fits-guards a y n =
-        rw (isAcquire-op σ e is-op, a, ← is-held, ← is-lock, ← is-task, y, n)
+      -- The rest is that no guard is held.
+      pub fits-guards : op ≡ 2 → hasBit h (object σ last) ≡ true → hasBit tasks t ≡ false
+          → eqb (bitAnd guards h) 0 ≡ fits (signature σ) (chainOf 0 last tasks guards) e
+      fits-guards a y n = rw (isAcquire-op σ e is-op, a, ← is-held, ← is-task, y, n)
+
+-- ---- the next event of a chain
+
+module _ (σ : Trace) (c : Chain) (e : ℕ) where
+  -- A number that is not larger than the first event's does not join.
+  pub joins-early : e ≤ c .first → false ≡ joins σ c e
+  unfolding joins
+  joins-early h = rw (le-ltb (c .first) e h, and-false (isEvent σ e))
+
+  -- Nor does one past the last event.
+  pub joins-past : isEvent σ e ≡ false → false ≡ joins σ c e
+  unfolding joins
+  joins-past n = rw n
+
+  -- Any other joins where it fits.
+  pub joins-fit : isEvent σ e ≡ true → c .first < e → fits (signature σ) c e ≡ joins σ c e
+  unfolding joins
+  joins-fit y h = rw (y, lt-ltb (c .first) e h)
+
+-- What joins is an acquire, and its record is there.
+pub joins-event : (b : List ℕ) (c : Chain) (e : ℕ) → joins (decodeAll b) c e ≡ true
+    → (1 ≤ e) × (2 * e ≤ length b) × T (isAcquire (decodeAll b) e)
+unfolding joins
+joins-event b c e y =
+    let t : T (joins (decodeAll b) c e) = rw y tt in
+    let event = isEvent-iff (decodeAll b) e .0 (search parts) in
+    let size = decodeAll-length b in
+    (event .0, omega arith, search parts)
 
 -- ---- the numbers of a pattern, one after the other
 
 module _ (σ : Trace) (ns : List ℕ) (a last tasks guards i : ℕ) (inside : i < length ns) where
   -- What is left to ask of the numbers from place i on.
   next : (c : Chain) → completing σ c (drop i ns)
-      ≡ (isEvent σ (getD ns i 0) && (ltb (c .first) (getD ns i 0)
-      && (fits (signature σ) c (getD ns i 0) && completing σ (add (signature σ) c (getD ns i 0))
-      (drop (i + 1) ns))))
+      ≡ (joins σ c (getD ns i 0) && completing σ (add (signature σ) c (getD ns i 0)) (drop (i + 1) ns))
+  unfolding joins
   next c =
       ap (completing σ c) (drop-cons ns i 0 inside ∙ ap (λ (n : ℕ). getD ns i 0 ∷ drop n ns)
       (sym (add-one i)))
       ∙ completing-cons σ c (getD ns i 0) (drop (i + 1) ns)
+      ∙ joined (isEvent σ (getD ns i 0)) (ltb (c .first) (getD ns i 0)) (fits (signature σ) c (getD ns i 0)) _
+    where
+      joined : (x y z w : Bool) → (x && (y && (z && w))) ≡ (x && y && z && w)
+      joined true true z w = refl
+      joined true false z w = refl
+      joined false y z w = refl
 
-  -- A number that is no later event than the first completes nothing.
-  pub completing-early : getD ns i 0 ≤ a → completing σ (chainOf a last tasks guards) (drop i ns) ≡ false
-  completing-early h =
-      next (chainOf a last tasks guards) ∙ rw (le-ltb a (getD ns i 0) h) (and-false (isEvent σ (getD ns i 0)))
-
-  -- Nor does one past the last event.
-  pub completing-past : isEvent σ (getD ns i 0) ≡ false
+  -- A number that does not join completes nothing.
+  pub completing-unfit : joins σ (chainOf a last tasks guards) (getD ns i 0) ≡ false
       → completing σ (chainOf a last tasks guards) (drop i ns) ≡ false
-  completing-past h = next (chainOf a last tasks guards) ∙ rw h
+  completing-unfit h = next (chainOf a last tasks guards) ∙ rw h
 
-  -- Nor does one that does not fit.
-  pub completing-unfit : fits (signature σ) (chainOf 0 last tasks guards) (getD ns i 0) ≡ false
-      → completing σ (chainOf a last tasks guards) (drop i ns) ≡ false
-  completing-unfit h =
-      next (chainOf a last tasks guards)
-      ∙ rw (h, and-false (ltb a (getD ns i 0))) (and-false (isEvent σ (getD ns i 0)))
-
-  -- One that fits leaves the rest to complete the longer chain.
-  pub completing-fit : (e t g : ℕ) → e ≡ getD ns i 0 → isEvent σ e ≡ true → a < e
-      → fits (signature σ) (chainOf 0 last tasks guards) e ≡ true
+  -- One that joins leaves the rest to complete the longer chain.
+  pub completing-fit : (e t g : ℕ) → e ≡ getD ns i 0 → joins σ (chainOf a last tasks guards) e ≡ true
       → t ≡ bitOr tasks (2 ^ task σ e) → g ≡ bitOr guards (held σ e)
-      → completing σ (chainOf a e t g) (drop (i + 1) ns) ≡ completing σ (chainOf a last tasks guards)
-      (drop i ns)
-  completing-fit e t g q y h f r s =
-      rw (r, s, q)
-      (sym (next (chainOf a last tasks guards)
-      ∙ rw (rw q at y, lt-ltb a (getD ns i 0) (rw q at h), rw q at f)))
-
--- What fits is an acquire.
-pub fits-acquires : (σ : Trace) (last tasks guards e : ℕ)
-    → fits (signature σ) (chainOf 0 last tasks guards) e ≡ true → T (isAcquire σ e)
-fits-acquires σ last tasks guards e f =
-    let t : T (fits (signature σ) (chainOf 0 last tasks guards) e) = rw f tt in search parts
+      → completing σ (chainOf a e t g) (drop (i + 1) ns)
+      ≡ completing σ (chainOf a last tasks guards) (drop i ns)
+  completing-fit e t g q y r s = rw (r, s, q) (sym (next (chainOf a last tasks guards) ∙ rw (rw q at y)))
 
 -- The chain of one event, by what code reads of it.
 pub completing-start : (σ : Trace) (a t g : ℕ) (q : List ℕ) → t ≡ 2 ^ task σ a → g ≡ held σ a

@@ -1,21 +1,26 @@
 -- What is decided of a lent pattern, as one number, and the table that question 10 reads.
 use Prim.Native.Nat.{ℕ, _+_, _-_, _≤_}
 use mathlib.Core.Path.{_≡_}
-use mathlib.Core.Bool.{cond, _&&_}
+use mathlib.Core.Bool.{Bool, cond, _&&_}
 use mathlib.Core.List.{List, [], _∷_}
-use lib.Dec.{leb}
+use lib.Dec.{leb, ltb}
 use lib.ListN.{length, getD}
 use Rattle.model.specs.Lists.{filter, from}
 use Rattle.model.specs.Bytes.{numbers, isWhole}
-use Rattle.model.specs.Trace.{Trace, tasks, task}
+use Rattle.model.specs.Trace.{Trace, tasks, task, isEvent}
 use Rattle.model.specs.Relations.{held}
 use Rattle.model.specs.EventSet.{has}
 use Rattle.model.specs.Pattern.{isPattern, closureBefore, isDeadlock}
+use Rattle.laws.specs.Chain.{Chain, signature, fits}
 
 -- The table of held locks, with an entry for each event of the longest recording.
 pub record Holding (σ : Trace) (holding : List ℕ) : Type 0 where
   pub long : length holding ≡ 4096
   pub at : (e : ℕ) → 1 ≤ e → e ≤ length σ → getD holding e 0 ≡ held σ e
+
+-- Event e may come next in a chain that may become a pattern: an event later than the first one, which fits.
+unfoldable pub joins : Trace → Chain → ℕ → Bool
+joins σ c e = isEvent σ e && ltb (c .first) e && fits (signature σ) c e
 
 -- Of the bytes of a pattern: 0 for none (question 10 is answered "no"), 1 for the verdict "not", 2 for
 -- deadlock.

@@ -1,15 +1,16 @@
 // Deadlock patterns: whether lent bytes are one, its verdict by the closure of its predecessors, and the
 // schedule that witnesses it. A pattern's numbers are two bytes each.
-ghost use Prim.Native.Nat.{_+_, _*_, _/_, _<_, _≤_};
+ghost use Prim.Native.Nat.{_+_, _*_, _/_, _^_, _<_, _≤_};
 ghost use mathlib.Core.Path.{_≡_};
 ghost use mathlib.Core.Bool.{not, _&&_};
 ghost use mathlib.Core.List.{[]};
+ghost use lib.Bits.{bitOr};
 ghost use lib.Dec.{T, leb};
 ghost use lib.ListN.{length, getD, drop, replicate};
 ghost use lib.Seq.{sets};
 ghost use Rattle.model.specs.Lists.{all, hasBit};
 ghost use Rattle.model.specs.Bytes.{encode, numbers, isWhole};
-ghost use Rattle.model.specs.Trace.{tasks, task, isEvent, isAcquire};
+ghost use Rattle.model.specs.Trace.{tasks, task, object, isEvent, isAcquire};
 ghost use Rattle.model.specs.Recording.{decodeAll};
 ghost use Rattle.model.specs.Pattern.{isPattern};
 ghost use Rattle.model.specs.Calls.Check.{checkEvents};
@@ -19,7 +20,7 @@ ghost use Rattle.laws.specs.Answered.{refusedWitness};
 ghost use Rattle.laws.specs.Chain.{signature, start, fits, completing, chainOf};
 ghost use Rattle.laws.specs.Frontier.{Before};
 ghost use Rattle.frontier.specs.Visit.{Needed};
-ghost use Rattle.deadlock.specs.Judged.{Holding, judged, Reached, behindAt, behind};
+ghost use Rattle.deadlock.specs.Judged.{Holding, joins, judged, Reached, behindAt, behind};
 
 // Lock l is in the mask.
 pub fn in_mask(mask: u64, l: u64) -> bool
@@ -27,6 +28,23 @@ pub fn in_mask(mask: u64, l: u64) -> bool
     ensures { λ r. ⌜ r ≡ hasBit mask l ⌝ }
 {
     (mask >> l) & 1 == 1
+}
+
+// The lock of the acquire e is in the mask.
+pub fn lock_in_mask(records: &[u8], mask: u64, e: usize) -> bool
+    requires { ⌜ (1 ≤ e) × (2 * e ≤ length (now records))
+        × (checkEvents (decodeAll (now records)) .refusal ≡ 0) × T (isAcquire (decodeAll (now records)) e) ⌝ }
+    ensures { λ r. ⌜ r ≡ hasBit mask (object (decodeAll (now (records .entry))) e) ⌝ }
+{
+    in_mask(mask, recording::object(records, e) as u64)
+}
+
+// The mask of tasks with that of event e.
+pub fn with_task(records: &[u8], tasks: u64, e: usize) -> u64
+    requires { ⌜ (1 ≤ e) × (2 * e ≤ length (now records)) ⌝ }
+    ensures { λ r. ⌜ r ≡ bitOr tasks (2 ^ (task (decodeAll (now (records .entry))) e)) ⌝ }
+{
+    tasks | (1 << (recording::task(records, e) as u64))
 }
 
 // The number e is that of an acquire.
@@ -56,14 +74,14 @@ pub fn follows(
     requires { ⌜ (1 ≤ last) × (2 * last ≤ length (now records)) × (1 ≤ e) × (2 * e ≤ length (now records))
         × (length (now records) ≤ 8190) × (checkEvents (decodeAll (now records)) .refusal ≡ 0)
         × Holding (decodeAll (now records)) (now holding) × T (isAcquire (decodeAll (now records)) last) ⌝ }
-    ensures { λ r. ⌜ r ≡ fits (signature (decodeAll (now (records .entry)))) (chainOf 0 last tasks guards)
-        e ⌝ }
+    ensures { λ r. ⌜ r ≡ fits (signature (decodeAll (now (records .entry))))
+        (chainOf 0 last tasks guards) e ⌝ }
 {
     if recording::operation(records, e) != 2 {
         return false;
     }
     let held = holding[e];
-    if !in_mask(held, recording::object(records, last) as u64) {
+    if !lock_in_mask(records, held, last) {
         return false;
     }
     if in_mask(tasks, recording::task(records, e) as u64) {
@@ -72,39 +90,57 @@ pub fn follows(
     guards & held == 0
 }
 
-// The numbers after the first complete the chain of the acquire a: each fits the chain before it, and the
-// last
-// one's lock is held at the first.
+// The number e may come next in a pattern that begins with a, after a chain that ends with the acquire
+// `last`: it is that of an event later than a, which may follow the chain.
+fn joins(
+    records: &[u8],
+    holding: &[u64],
+    a: usize,
+    last: usize,
+    tasks: u64,
+    guards: u64,
+    e: usize,
+) -> bool
+    requires { ⌜ (1 ≤ last) × (2 * last ≤ length (now records)) × (length (now records) ≤ 8190)
+        × (checkEvents (decodeAll (now records)) .refusal ≡ 0)
+        × Holding (decodeAll (now records)) (now holding) × T (isAcquire (decodeAll (now records)) last) ⌝ }
+    ensures { λ r. ⌜ r ≡ joins (decodeAll (now (records .entry))) (chainOf a last tasks guards) e ⌝ }
+{
+    if e <= a {
+        return false;
+    }
+    if records.len() / 2 < e {
+        return false;
+    }
+    follows(records, holding, last, tasks, guards, e)
+}
+
+// The numbers after the first complete the chain of the acquire a: each joins the chain before it, and the
+// last one's lock is held at the first.
 fn completes(records: &[u8], holding: &[u64], pattern: &[u8], a: usize) -> bool
     requires { ⌜ (1 ≤ a) × (2 * a ≤ length (now records)) × (length (now records) ≤ 8190)
-        × (checkEvents (decodeAll (now records)) .refusal ≡ 0) × Holding (decodeAll (now records))
-        (now holding)
-        × T (isAcquire (decodeAll (now records)) a) × (2 ≤ length (now pattern)) ⌝ }
+        × (checkEvents (decodeAll (now records)) .refusal ≡ 0)
+        × Holding (decodeAll (now records)) (now holding) × T (isAcquire (decodeAll (now records)) a)
+        × (2 ≤ length (now pattern)) ⌝ }
     ensures { λ r. ⌜ r ≡ completing (decodeAll (now (records .entry)))
         (start (signature (decodeAll (now (records .entry)))) a)
         (drop 1 (numbers (now (pattern .entry)))) ⌝ }
 {
     let mut last = a;
-    let mut tasks = 1 << (recording::task(records, a) as u64);
+    let mut tasks = with_task(records, 0, a);
     let mut guards = holding[a];
     let mut i = 1;
     while i < pattern.len() / 2 {
         let e = recording::number(pattern, i) as usize;
-        if e <= a {
-            return false;
-        }
-        if records.len() / 2 < e {
-            return false;
-        }
-        if !follows(records, holding, last, tasks, guards, e) {
+        if !joins(records, holding, a, last, tasks, guards, e) {
             return false;
         }
         last = e;
-        tasks = tasks | (1 << (recording::task(records, e) as u64));
+        tasks = with_task(records, tasks, e);
         guards = guards | holding[e];
         i = i + 1;
     }
-    in_mask(holding[a], recording::object(records, last) as u64)
+    lock_in_mask(records, holding[a], last)
 }
 
 // Question 10: the lent bytes are a deadlock pattern of the records, smallest event first.

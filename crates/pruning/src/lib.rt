@@ -227,5 +227,5 @@ pub fn leads_back(
         (object (decodeAll (now (records .entry))) a)) ⌝ }
 {
     fill_back(lead, holding[a], back, count);
-    deadlock::in_mask(back[count - 1], recording::object(records, a) as u64)
+    deadlock::lock_in_mask(records, back[count - 1], a)
 }

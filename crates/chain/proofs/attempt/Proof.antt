@@ -1,66 +1,49 @@
 -- `chain::attempt` meets its contract: the laws say so of each outcome. Assumes nothing.
-use mathlib.Core.Path.{refl, sym, ap, _∙_}
+use mathlib.Core.Path.{refl, sym, _∙_}
 use mathlib.Core.List.{[], _∷_, _++_}
 use native.Mathlib.Omega.{arith}
 use borrow.Author.Needs.{needs}
 use lib.ListN.{getD, take}
-use Rattle.model.specs.Lists.{hasBit}
 use Rattle.model.specs.Recording.{decodeAll}
 use Rattle.laws.specs.Frontier.{Before}
 use Rattle.laws.proofs.Tests.{not-true, not-false}
 use Rattle.laws.proofs.Trace.{record-event}
-use Rattle.laws.proofs.Questions.{events-sound}
-use Rattle.laws.proofs.WellFormed.{acquire-lt}
 use Rattle.chain.proofs.Laws.{attempted-nowhere, attempted-met, attempted-itself, attempted-deadlock}
 use Rattle.chain.proofs.attempt.Statement.{statement}
 use Rattle.chain.proofs.attempt.Tie as tie
 
 -- The frontier that has grown is that of the longer path.
-grown : (c : tie.After-grow)
-    → Before (decodeAll (c .before .before .before .before .before .before .before .before .before .before
-    .before .before .before .args .records .now))
-    (take (c .before .before .before .before .before .before .before .before .before .before .before .before
-    .before .args .len) (c .before .before .before .before .before .before .before .before .before
-    .before .before .before .before .args .path .now) ++ c .before .before .before .before .before
-    .before .before .before .before .before .before .before .before .args .e ∷ [])
+grown : (c : tie.After-grow) → let a = c .before .before .before .before .before .before .before
+    .before .before .before .before .before .args in
+    Before (decodeAll (a .records .now)) (take (a .len) (a .path .now) ++ a .e ∷ [])
     (c .grow .last .1 .1 .1 .1 .1 .1 .0) (c .grow .last .1 .1 .1 .1 .1 .1 .1 .0)
-grown c = let s = c .before .before .before .before .before .before .before .before .before .before .before
-    .before .before in c .grow .ensures _ (s .pre .5) (s .pre .7)
+grown c =
+    let s = c .before .before .before .before .before .before .before .before .before .before .before
+    .before in
+    c .grow .ensures _ (s .pre .5) (s .pre .7)
 
-mul-in-mask : tie.Need-mul-in-mask
-mul-in-mask c = search needs
+mul-lock-in-mask : tie.Need-mul-lock-in-mask
+mul-lock-in-mask c = search needs
 
-shared-slice-read-in-mask : tie.Need-shared-slice-read-in-mask
-shared-slice-read-in-mask c = search needs
+shared-slice-read-lock-in-mask : tie.Need-shared-slice-read-lock-in-mask
+shared-slice-read-lock-in-mask c = search needs
 
-object-requires : tie.Need-object-requires
-object-requires c κs = search needs
-
-cast-in-mask : tie.Need-cast-in-mask
-cast-in-mask c = search needs
-
-in-mask-requires : tie.Need-in-mask-requires
-in-mask-requires c κs =
-    let s = c .before .before .before .before .before .before .before .before in
-    rw (c .object .ensures .1) (acquire-lt (decodeAll (s .args .records .now)) (events-sound
-    (s .args .records .now) (s .pre .1)) (s .args .e) (s .pre .10))
+lock-in-mask-requires : tie.Need-lock-in-mask-requires
+lock-in-mask-requires c κs = search needs
 
 returns : tie.Need-returns
 returns c =
-    let s = c .before .before .before .before .before .before .before .before .before .before in (
+    let s = c .before .before .before .before .before .before .before .before .before in (
       attempted-nowhere (decodeAll (s .args .records .now)) (s .args .k) (take (s .args .len) (s .args .path
           .now))
           (getD (s .args .path .now) 0 0) (s .args .e) (s .args .back .now) _ _ (s .pre .3)
-          (ap (hasBit (getD (s .args .back .now) (s .args .k) 0)) (sym (c .before .before .object .ensures
-          .1))
-          ∙ sym (c .before .in-mask .ensures) ∙ not-true _ (c .if1 .taken)),
+          (sym (c .before .lock-in-mask .ensures) ∙ not-true _ (c .if1 .taken)),
       (λ q. (refl, refl)),
     )
 
 grow-requires : tie.Need-grow-requires
 grow-requires c κs =
-    let s = c .before .before .before .before .before .before .before .before .before .before .before .before
-    in (
+    let s = c .before .before .before .before .before .before .before .before .before .before .before in (
       s .pre .0,
       s .pre .1,
       s .pre .2,
@@ -76,7 +59,7 @@ avoids-path-requires c κs = search needs
 returns-2 : tie.Need-returns-2
 returns-2 c =
     let s = c .before .before .before .before .before .before .before .before .before .before .before .before
-    .before .before .before .before .before in (
+    .before .before .before .before in (
       attempted-met (decodeAll (s .args .records .now)) (s .args .k) (take (s .args .len) (s .args .path
           .now))
           (getD (s .args .path .now) 0 0) (s .args .e) _ _ (s .pre .5) (record-event _ (s .args .e) (
@@ -95,7 +78,7 @@ contains-requires c κs = search needs
 returns-3 : tie.Need-returns-3
 returns-3 c =
     let s = c .before .before .before .before .before .before .before .before .before .before .before .before
-    .before .before .before .before .before .before .before .before .before in (
+    .before .before .before .before .before .before .before .before in (
       attempted-itself (decodeAll (s .args .records .now)) (s .args .k) (take (s .args .len) (s .args .path
           .now))
           (getD (s .args .path .now) 0 0) (s .args .e) _ _ (s .pre .5) (record-event _ (s .args .e) (
@@ -113,7 +96,7 @@ returns-3 c =
 returns-4 : tie.Need-returns-4
 returns-4 c =
     let s = c .before .before .before .before .before .before .before .before .before .before .before .before
-    .before .before .before .before .before .before .before .before .before in (
+    .before .before .before .before .before .before .before .before in (
       attempted-deadlock (decodeAll (s .args .records .now)) (s .args .k) (take (s .args .len) (s .args .path
           .now))
           (getD (s .args .path .now) 0 0) (s .args .e) _ _ (s .pre .5) (record-event _ (s .args .e) (
@@ -132,11 +115,9 @@ pub attempt-spec : {M : Type 1} → statement M
 attempt-spec =
     tie.close
     (tie.spec
-    mul-in-mask
-    shared-slice-read-in-mask
-    object-requires
-    cast-in-mask
-    in-mask-requires
+    mul-lock-in-mask
+    shared-slice-read-lock-in-mask
+    lock-in-mask-requires
     returns
     grow-requires
     avoids-path-requires

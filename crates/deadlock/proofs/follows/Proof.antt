@@ -1,13 +1,10 @@
 -- `deadlock::follows` meets its contract: each return cites the law of its case. Assumes nothing.
-use mathlib.Core.Path.{refl, sym, _∙_}
+use mathlib.Core.Path.{sym, _∙_}
 use native.Mathlib.Omega.{arith}
 use borrow.Author.Needs.{needs}
-use Rattle.model.specs.Trace.{isAcquire}
 use Rattle.model.specs.Recording.{decodeAll}
-use Rattle.laws.proofs.Tests.{or-l, not-true, not-false}
+use Rattle.laws.proofs.Tests.{not-true, not-false}
 use Rattle.laws.proofs.Trace.{decodeAll-length}
-use Rattle.laws.proofs.WellFormed.{lock-lt}
-use Rattle.laws.proofs.Questions.{events-sound}
 use Rattle.deadlock.proofs.Chains.{fits-acquire, fits-lock, fits-task, fits-guards}
 use Rattle.deadlock.proofs.follows.Statement.{statement}
 use Rattle.deadlock.proofs.follows.Tie as tie
@@ -27,70 +24,51 @@ mul-held c = search needs
 shared-slice-read-held : tie.Need-shared-slice-read-held
 shared-slice-read-held c = search needs
 
-object-requires : tie.Need-object-requires
-object-requires c κs = search needs
+lock-in-mask-requires : tie.Need-lock-in-mask-requires
+lock-in-mask-requires c κs = search needs
+
+returns-2 : tie.Need-returns-2
+returns-2 c =
+    let s = c .before .before .before .before .before .before .before in
+    let a = s .args in
+    let size = decodeAll-length (a .records .now) in
+    fits-lock (decodeAll (a .records .now)) (a .last) (a .tasks) (a .guards) (a .e)
+    (c .before .before .before .before .operation .ensures .1)
+    (s .pre .6 .at (a .e) (s .pre .2) (omega (arith, s .pre .3)))
+    (sym (c .before .lock-in-mask .ensures) ∙ not-true _ (c .if2 .taken))
+
+task-requires : tie.Need-task-requires
+task-requires c κs = search needs
 
 cast-in-mask : tie.Need-cast-in-mask
 cast-in-mask c = search needs
 
 in-mask-requires : tie.Need-in-mask-requires
-in-mask-requires c κs =
-    let s = c .before .before .before .before .before .before in
-    let b = s .args .records .now in
-    let size = decodeAll-length b in
-    omega (
-      arith,
-      lock-lt (decodeAll b) (events-sound b (s .pre .5)) (s .args .last) (s .pre .0)
-          (omega (arith, s .pre .1))
-          (or-l (isAcquire (decodeAll b) (s .args .last)) _ (s .pre .7)),
-      c .object .ensures .1,
-    )
-
-returns-2 : tie.Need-returns-2
-returns-2 c =
-    let s = c .before .before .before .before .before .before .before .before in
-    let a = s .args in
-    let size = decodeAll-length (a .records .now) in
-    fits-lock (decodeAll (a .records .now)) (a .last) (a .tasks) (a .guards) (a .e)
-    (c .before .before .before .before .before .operation .ensures .1)
-    (s .pre .6 .at (a .e) (s .pre .2) (omega (arith, s .pre .3)))
-    (c .before .before .object .ensures .1) refl (sym (c .before .in-mask .ensures) ∙ not-true _
-    (c .if2 .taken))
-
-task-requires : tie.Need-task-requires
-task-requires c κs = search needs
-
-cast-in-mask-2 : tie.Need-cast-in-mask-2
-cast-in-mask-2 c = search needs
-
-in-mask-requires-2 : tie.Need-in-mask-requires-2
-in-mask-requires-2 c κs = search needs
+in-mask-requires c κs = search needs
 
 returns-3 : tie.Need-returns-3
 returns-3 c =
-    let s = c .before .before .before .before .before .before .before .before .before .before .before in
+    let s = c .before .before .before .before .before .before .before .before .before .before in
     let a = s .args in
     let size = decodeAll-length (a .records .now) in
     fits-task (decodeAll (a .records .now)) (a .last) (a .tasks) (a .guards) (a .e)
-    (c .before .before .before .before .before .before .before .before .operation .ensures .1)
+    (c .before .before .before .before .before .before .before .operation .ensures .1)
     (s .pre .6 .at (a .e) (s .pre .2) (omega (arith, s .pre .3)))
-    (c .before .before .before .before .before .object .ensures .1)
-    (c .before .before .task .ensures .1) (sym (c .before .in-mask2 .ensures) ∙ c .if3 .taken)
+    (c .before .before .task .ensures .1) (sym (c .before .in-mask .ensures) ∙ c .if3 .taken)
 
 returns-4 : tie.Need-returns-4
 returns-4 c =
-    let s = c .before .before .before .before .before .before .before .before .before .before .before in
+    let s = c .before .before .before .before .before .before .before .before .before .before in
     let a = s .args in
     let size = decodeAll-length (a .records .now) in
+    let kind = c .before .before .before .before .before .before in
+    let guarded = c .before .before .before in
     fits-guards (decodeAll (a .records .now)) (a .last) (a .tasks) (a .guards) (a .e)
-    (c .before .before .before .before .before .before .before .before .operation .ensures .1)
+    (kind .before .operation .ensures .1)
     (s .pre .6 .at (a .e) (s .pre .2) (omega (arith, s .pre .3)))
-    (c .before .before .before .before .before .object .ensures .1)
-    (c .before .before .task .ensures .1) (c .before .before .before .before .before .before .before .if1
-    .left)
-    (sym (c .before .before .before .before .in-mask .ensures) ∙ not-false _
-    (c .before .before .before .if2 .left))
-    (sym (c .before .in-mask2 .ensures) ∙ c .if3 .left)
+    (c .before .before .task .ensures .1) (kind .if1 .left)
+    (sym (guarded .before .lock-in-mask .ensures) ∙ not-false _ (guarded .if2 .left))
+    (sym (c .before .in-mask .ensures) ∙ c .if3 .left)
 
 pub follows-spec : {M : Type 1} → statement M
 follows-spec =
@@ -100,12 +78,10 @@ follows-spec =
     returns
     mul-held
     shared-slice-read-held
-    object-requires
-    cast-in-mask
-    in-mask-requires
+    lock-in-mask-requires
     returns-2
     task-requires
-    cast-in-mask-2
-    in-mask-requires-2
+    cast-in-mask
+    in-mask-requires
     returns-3
     returns-4)

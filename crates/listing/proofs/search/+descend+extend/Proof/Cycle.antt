@@ -24,7 +24,7 @@ use Rattle.chain.proofs.attempt.Reads as attempt-reads
 use Rattle.chain.proofs.completes.Reads as completes-reads
 use Rattle.chain.proofs.exclude.Reads as exclude-reads
 use Rattle.chain.proofs.reused.Reads as reused-reads
-use Rattle.chain.proofs.with_task.Reads as with-task-reads
+use Rattle.deadlock.proofs.with_task.Reads as with-task-reads
 use Rattle.entries.proofs.take_pattern.Reads as take-pattern-reads
 use Rattle.pruning.proofs.following.Reads as following-reads
 

@@ -1,12 +1,12 @@
--- `chain::with_task` meets its contract: a bit more. Assumes nothing.
+-- `deadlock::with_task` meets its contract: a bit more. Assumes nothing.
 use Prim.Native.Nat.{ℕ, _^_}
 use mathlib.Core.Path.{ap}
 use native.Mathlib.Omega.{arith}
 use borrow.Author.Needs.{needs}
 use lib.Bits.{bitOr}
 use Rattle.laws.proofs.Bits.{shift-one}
-use Rattle.chain.proofs.with_task.Statement.{statement}
-use Rattle.chain.proofs.with_task.Tie as tie
+use Rattle.deadlock.proofs.with_task.Statement.{statement}
+use Rattle.deadlock.proofs.with_task.Tie as tie
 
 task-requires : tie.Need-task-requires
 task-requires c κs = search needs
