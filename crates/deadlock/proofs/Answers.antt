@@ -1,23 +1,24 @@
 -- The answers of the verdict and the witness call, by what is decided of the lent pattern. Assumes nothing.
-use Prim.Native.Nat.{ℕ, _≤_, _<_}
-use mathlib.Core.Path.{_≡_, sym, _∙_}
+use Prim.Native.Nat.{ℕ}
+use mathlib.Core.Path.{_≡_}
 use mathlib.Core.Logic.{_≢_}
 use mathlib.Core.Bool.{true, false, _&&_}
 use mathlib.Core.List.{List}
 use native.Mathlib.Omega.{arith}
-use lib.Dec.{eqb}
+use lib.Dec.{eqb, leb}
 use lib.ListN.{length}
-use borrow.Author.Tests.{eq-eqb, ne-eqb, le-leb, lt-leb}
-use Rattle.model.specs.Bytes.{encode, numbers, isWhole, written}
+use borrow.Author.Tests.{eq-eqb, ne-eqb, le-leb}
+use Rattle.model.specs.Bytes.{encode, numbers, isWhole}
 use Rattle.model.specs.Recording.{trace}
 use Rattle.model.specs.Pattern.{isPattern, isDeadlock}
-use Rattle.model.specs.Calls.Questions.{outcome, lendsPattern, fitsOutput}
+use Rattle.model.specs.Calls.Questions.{lendsPattern, fitsOutput}
 use Rattle.model.specs.Calls.Check.{check}
 use Rattle.model.specs.Calls.Verdict.{verdictRefusal, verdict}
 use Rattle.model.specs.Calls.Witness.{leastSchedule, witnessBytes, witnessRefusal, witness, witnessOut}
 use Rattle.laws.specs.Answered.{refusedWitness}
 use Rattle.laws.proofs.Tests.{decided}
 use Rattle.deadlock.specs.Judged.{judged}
+use Rattle.deadlock.specs.Witnessed.{delivered, deliveredOut, witnessed, witnessedOut}
 
 module _ (b p : List ℕ) where
   -- What is decided says whether the bytes are a pattern,
@@ -70,54 +71,19 @@ module _ (b p : List ℕ) where
   witness-unchecked out d =
       let n = ne-eqb (check b .refusal) 0 d in (rw (n, n, n), rw (n, n, n))
 
-  module _ (out : List ℕ) (c : check b .refusal ≡ 0) where
-    -- 10: no pattern.
-    pub witness-none : judged (trace b) p ≡ 0
-        → (witness b p (length out) ≡ refusedWitness 10 0) × (witnessOut b p out ≡ out)
-    unfolding witness witnessOut witnessRefusal verdictRefusal lendsPattern
-    witness-none q =
-        let y = eq-eqb (check b .refusal) 0 c in let n = judged-zero q in (rw (y, n), rw (y, n))
-
-    module _ (d : judged (trace b) p ≢ 0) where
-      accepted : verdictRefusal b p ≡ outcome 0 0
-      unfolding verdictRefusal lendsPattern
-      accepted = rw (eq-eqb (check b .refusal) 0 c, judged-some d)
-
-      -- The verdict "not" writes nothing.
-      pub witness-not : judged (trace b) p ≢ 2
-          → (witness b p (length out) ≡ refusedWitness 0 0) × (witnessOut b p out ≡ out)
-      unfolding witness witnessOut witnessRefusal witnessBytes fitsOutput
-      witness-not n =
-          let v : isDeadlock (trace b) (numbers p) ≡ false =
-          sym (judged-deadlock d) ∙ ne-eqb (judged (trace b) p) 2 n in
-          let z = le-leb 0 (length out) (omega arith) in
-          (rw (accepted, v, z), rw (accepted, v, z))
-
-      module _ (y : judged (trace b) p ≡ 2) where
-        bytes : witnessBytes b p ≡ encode (leastSchedule (trace b) (numbers p))
-        unfolding witnessBytes
-        bytes = rw (sym (judged-deadlock d) ∙ eq-eqb (judged (trace b) p) 2 y)
-
-        -- 13: the schedule does not fit.
-        pub witness-short : length out < length (encode (leastSchedule (trace b) (numbers p)))
-            → (witness b p (length out) ≡ refusedWitness 13 0) × (witnessOut b p out ≡ out)
-        unfolding witness witnessOut witnessRefusal fitsOutput
-        witness-short l =
-            let n = lt-leb (length (encode (leastSchedule (trace b) (numbers p)))) (length out) l in
-            (rw (accepted, bytes, n), rw (accepted, bytes, n))
-
-        -- The schedule is written.
-        pub witness-written : length (encode (leastSchedule (trace b) (numbers p))) ≤ length out
-            → (witness b p (length out)
-            ≡ record {
-              refusal = 0;
-              event = 0;
-              deadlock = true;
-              bytes = length (encode (leastSchedule (trace b) (numbers p)));
-            })
-            × (witnessOut b p out ≡ written (encode (leastSchedule (trace b) (numbers p))) out)
-        unfolding witness witnessOut witnessRefusal fitsOutput
-        witness-written l =
-            let n = le-leb (length (encode (leastSchedule (trace b) (numbers p)))) (length out) l in
-            let v = sym (judged-deadlock d) ∙ eq-eqb (judged (trace b) p) 2 y in
-            (rw (accepted, bytes, n, v), rw (accepted, bytes, n))
+  -- Of an accepted one the events decide.
+  pub witness-accepted : (out : List ℕ) → check b .refusal ≡ 0
+      → (witness b p (length out) ≡ witnessed (trace b) p (length out))
+      × (witnessOut b p out ≡ witnessedOut (trace b) p out)
+  unfolding witness witnessOut witnessRefusal verdictRefusal lendsPattern witnessBytes fitsOutput
+      witnessed witnessedOut delivered deliveredOut judged
+  witness-accepted out c =
+      let y = eq-eqb (check b .refusal) 0 c in
+      let room = le-leb 0 (length out) (omega arith) in
+      decided (isWhole p && isPattern (trace b) (numbers p))
+      (λ w. decided (isDeadlock (trace b) (numbers p))
+      (λ d. decided (leb (length (encode (leastSchedule (trace b) (numbers p)))) (length out))
+      (λ l. (rw (y, w, d, l), rw (y, w, d, l)))
+      (λ l. (rw (y, w, d, l), rw (y, w, d, l))))
+      (λ n. (rw (y, w, n, room), rw (y, w, n, room))))
+      (λ n. (rw (y, n), rw (y, n)))

@@ -1,6 +1,5 @@
 -- The numbers of a pattern one by one: that each is an event, the frontier of their predecessors, and the
--- test
--- of each against it. Assumes nothing.
+-- test of each against it. Assumes nothing.
 use Prim.Native.Nat.{ℕ, _+_, _*_, _/_, _≤_, _<_}
 use mathlib.Core.Path.{_≡_, ap}
 use mathlib.Core.Bool.{Bool, true, false, cond, not, _&&_}

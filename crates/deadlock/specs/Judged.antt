@@ -1,4 +1,5 @@
--- What is decided of a lent pattern, as one number, and the table that question 10 reads.
+-- The table that question 10 reads and its test of each number, what is decided of a lent pattern, as one
+-- number, and the events in the set of a frontier.
 use Prim.Native.Nat.{ℕ, _+_, _-_, _≤_}
 use mathlib.Core.Path.{_≡_}
 use mathlib.Core.Bool.{Bool, cond, _&&_}
@@ -22,8 +23,8 @@ pub record Holding (σ : Trace) (holding : List ℕ) : Type 0 where
 unfoldable pub joins : Trace → Chain → ℕ → Bool
 joins σ c e = isEvent σ e && ltb (c .first) e && fits (signature σ) c e
 
--- Of the bytes of a pattern: 0 for none (question 10 is answered "no"), 1 for the verdict "not", 2 for
--- deadlock.
+-- What is decided of the bytes of a pattern: 0 where they are none (question 10 is answered "no"), 1 for the
+-- verdict "not", 2 for deadlock.
 unfoldable pub judged : Trace → List ℕ → ℕ
 judged σ p = cond (isWhole p && isPattern σ (numbers p)) (cond (isDeadlock σ (numbers p)) 2 1) 0
 

@@ -1,2 +1,4 @@
--- The table of held locks, and what is decided of a lent pattern; both are defined in `model`.
+-- The table of held locks, what is decided of a lent pattern, and the witness call from the trace on; what
+-- they speak of is defined in `model`.
 pub mod Judged
+pub mod Witnessed

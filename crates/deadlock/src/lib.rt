@@ -21,6 +21,7 @@ ghost use Rattle.laws.specs.Chain.{signature, start, fits, completing, chainOf}
 ghost use Rattle.laws.specs.Frontier.{Before};
 ghost use Rattle.frontier.specs.Visit.{Needed};
 ghost use Rattle.deadlock.specs.Judged.{Holding, joins, judged, Reached, behindAt, behind};
+ghost use Rattle.deadlock.specs.Witnessed.{delivered, deliveredOut, witnessed, witnessedOut};
 
 // Lock l is in the mask.
 pub fn in_mask(mask: u64, l: u64) -> bool
@@ -49,8 +50,8 @@ pub fn with_task(records: &[u8], tasks: u64, e: usize) -> u64
 
 // The number e is that of an acquire.
 fn is_acquire(records: &[u8], e: usize) -> bool
-    ensures { λ r. ⌜ r ≡ (isEvent (decodeAll (now (records .entry))) e && isAcquire
-        (decodeAll (now (records .entry))) e) ⌝ }
+    ensures { λ r. ⌜ r ≡ (isEvent (decodeAll (now (records .entry))) e
+        && isAcquire (decodeAll (now (records .entry))) e) ⌝ }
 {
     if e == 0 {
         return false;
@@ -123,8 +124,7 @@ fn completes(records: &[u8], holding: &[u64], pattern: &[u8], a: usize) -> bool
         × Holding (decodeAll (now records)) (now holding) × T (isAcquire (decodeAll (now records)) a)
         × (2 ≤ length (now pattern)) ⌝ }
     ensures { λ r. ⌜ r ≡ completing (decodeAll (now (records .entry)))
-        (start (signature (decodeAll (now (records .entry)))) a)
-        (drop 1 (numbers (now (pattern .entry)))) ⌝ }
+        (start (signature (decodeAll (now (records .entry)))) a) (drop 1 (numbers (now (pattern .entry)))) ⌝ }
 {
     let mut last = a;
     let mut tasks = with_task(records, 0, a);
@@ -182,8 +182,7 @@ fn reach(
         × T (all (isEvent (decodeAll (now records))) (numbers (now pattern)))
         × Before (decodeAll (now records)) [] (now front) (now latest) × (now want ≡ now front) ⌝ }
     ensures { λ r. ⌜ Before (decodeAll (now (records .entry))) (numbers (now (pattern .entry)))
-        (now (front .exit))
-        (now (latest .exit)) ⌝ }
+        (now (front .exit)) (now (latest .exit)) ⌝ }
 {
     let mut i = 0;
     while i < pattern.len() / 2 {
@@ -204,10 +203,10 @@ fn reach(
 
 // No event of the pattern is in the set of the frontier.
 fn avoids(records: &[u8], pattern: &[u8], front: &[u16]) -> bool
-    requires { ⌜ T (all (isEvent (decodeAll (now records))) (numbers (now pattern))) ×
-        (length (now front) ≡ tasks) ⌝ }
-    ensures { λ r. ⌜ r ≡ all (λ e. not (leb e (getD (now (front .entry))
-        (task (decodeAll (now (records .entry))) e) 0)))
+    requires { ⌜ T (all (isEvent (decodeAll (now records))) (numbers (now pattern)))
+        × (length (now front) ≡ tasks) ⌝ }
+    ensures { λ r. ⌜ r ≡ all
+        (λ e. not (leb e (getD (now (front .entry)) (task (decodeAll (now (records .entry))) e) 0)))
         (numbers (now (pattern .entry))) ⌝ }
 {
     let mut i = 0;
@@ -296,8 +295,8 @@ fn judge(records: &[u8], pattern: &[u8], front: &mut [u16]) -> u64
     )
 }
 
-// The verdict of a lent pattern: question 10, then whether the closure of its predecessors has none of its
-// events.
+// The verdict of a lent pattern: questions 1 to 7, question 10, then whether the closure of its predecessors
+// has none of its events.
 pub fn verdict(recording: &[u8], pattern: &[u8]) -> model::Verdict
     ensures { λ r. ⌜ r ≡ verdict (now (recording .entry)) (now (pattern .entry)) ⌝ }
 {
@@ -328,8 +327,8 @@ pub fn verdict(recording: &[u8], pattern: &[u8]) -> model::Verdict
 // How many events are in the set of the frontier.
 fn count_behind(records: &[u8], front: &[u16]) -> u64
     requires { ⌜ (length (now records) ≤ 8190) × (length (now front) ≡ tasks) ⌝ }
-    ensures { λ r. ⌜ (r ≤ 4095) × (r ≡ length (behind (decodeAll (now (records .entry)))
-        (now (front .entry)))) ⌝ }
+    ensures { λ r. ⌜ (r ≤ 4095)
+        × (r ≡ length (behind (decodeAll (now (records .entry))) (now (front .entry)))) ⌝ }
 {
     let mut count = 0;
     let mut e = 1;
@@ -346,11 +345,10 @@ fn count_behind(records: &[u8], front: &[u16]) -> u64
 fn write_one(records: &[u8], front: &[u16], out: &mut [u8], at: usize, e: usize) -> usize
     requires { ⌜ (1 ≤ e) × (2 * e ≤ length (now records)) × (e < 4096) × (length (now front) ≡ tasks)
         × (at + length (encode (behindAt (decodeAll (now records)) (now front) e)) ≤ length (now out)) ⌝ }
-    ensures { λ r. ⌜ (r ≡ at + length (encode (behindAt (decodeAll (now (records .entry)))
-        (now (front .entry)) e)))
-        × (now (out .exit)
-        ≡ sets (now (out .entry)) at (encode (behindAt (decodeAll (now (records .entry)))
-        (now (front .entry)) e))) ⌝ }
+    ensures { λ r. ⌜ (r ≡ at
+        + length (encode (behindAt (decodeAll (now (records .entry))) (now (front .entry)) e)))
+        × (now (out .exit) ≡ sets (now (out .entry)) at
+        (encode (behindAt (decodeAll (now (records .entry))) (now (front .entry)) e))) ⌝ }
 {
     if !frontier::contains(records, front, e) {
         return at;
@@ -359,14 +357,12 @@ fn write_one(records: &[u8], front: &[u16], out: &mut [u8], at: usize, e: usize)
     at + 2
 }
 
-// Writes the events in the set of the frontier at the front of the output, in recording order, two bytes
-// each.
+// Writes the events in the set of the frontier at the output's front, in recording order and two bytes each.
 fn write_behind(records: &[u8], front: &[u16], out: &mut [u8])
     requires { ⌜ (length (now records) ≤ 8190) × (length (now front) ≡ tasks)
         × (2 * length (behind (decodeAll (now records)) (now front)) ≤ length (now out)) ⌝ }
-    ensures { λ r. ⌜ now (out .exit)
-        ≡ sets (now (out .entry)) 0 (encode (behind (decodeAll (now (records .entry)))
-        (now (front .entry)))) ⌝ }
+    ensures { λ r. ⌜ now (out .exit) ≡ sets (now (out .entry)) 0
+        (encode (behind (decodeAll (now (records .entry))) (now (front .entry)))) ⌝ }
 {
     let mut at = 0;
     let mut e = 1;
@@ -388,9 +384,51 @@ fn unwritten(refusal: u64, event: u64) -> model::Witness
     }
 }
 
-// The schedule that witnesses a lent pattern: question 10, the verdict, and where it is deadlock question
-// 13; then
-// the closure of the predecessors is written in recording order.
+// Delivers the schedule of a deadlock, the events in the set of the frontier: question 13, and where they fit
+// the output they are written at its front.
+fn deliver(records: &[u8], front: &[u16], out: &mut [u8]) -> model::Witness
+    requires { ⌜ (length (now records) ≤ 8190) × (length (now front) ≡ tasks) ⌝ }
+    ensures answer { λ r. ⌜ r ≡ delivered
+        (encode (behind (decodeAll (now (records .entry))) (now (front .entry))))
+        (length (now (out .entry))) ⌝ }
+    ensures output { λ r. ⌜ now (out .exit) ≡ deliveredOut
+        (encode (behind (decodeAll (now (records .entry))) (now (front .entry)))) (now (out .entry)) ⌝ }
+{
+    let count = count_behind(records, front);
+    if (out.len() as u64) < 2 * count {
+        return unwritten(13, 0);
+    }
+    write_behind(records, front, out);
+    model::Witness {
+        refusal: 0,
+        event: 0,
+        deadlock: true,
+        bytes: 2 * count,
+    }
+}
+
+// The witness call from question 10 on: what is decided of the lent bytes, and where that is deadlock the
+// schedule of the frontier.
+fn witness_records(records: &[u8], pattern: &[u8], out: &mut [u8]) -> model::Witness
+    requires { ⌜ (length (now records) ≤ 8190) × (checkEvents (decodeAll (now records)) .refusal ≡ 0) ⌝ }
+    ensures answer { λ r. ⌜ r ≡ witnessed (decodeAll (now (records .entry))) (now (pattern .entry))
+        (length (now (out .entry))) ⌝ }
+    ensures output { λ r. ⌜ now (out .exit) ≡ witnessedOut (decodeAll (now (records .entry)))
+        (now (pattern .entry)) (now (out .entry)) ⌝ }
+{
+    let mut front = [0u16; 16];
+    let decided = judge(records, pattern, &mut front);
+    if decided == 0 {
+        return unwritten(10, 0);
+    }
+    if decided != 2 {
+        return unwritten(0, 0);
+    }
+    deliver(records, &front, out)
+}
+
+// The schedule that witnesses a lent pattern, the closure of its predecessors in recording order: questions 1
+// to 7, then question 10, the verdict, and where that is deadlock question 13.
 pub fn witness(recording: &[u8], pattern: &[u8], out: &mut [u8]) -> model::Witness
     ensures answer { λ r. ⌜ r ≡ witness (now (recording .entry)) (now (pattern .entry))
         (length (now (out .entry))) ⌝ }
@@ -401,23 +439,5 @@ pub fn witness(recording: &[u8], pattern: &[u8], out: &mut [u8]) -> model::Witne
     if checked.refusal != 0 {
         return unwritten(checked.refusal, checked.event);
     }
-    let mut front = [0u16; 16];
-    let decided = judge(&recording[2..], pattern, &mut front);
-    if decided == 0 {
-        return unwritten(10, 0);
-    }
-    if decided != 2 {
-        return unwritten(0, 0);
-    }
-    let count = count_behind(&recording[2..], &front);
-    if (out.len() as u64) < 2 * count {
-        return unwritten(13, 0);
-    }
-    write_behind(&recording[2..], &front, out);
-    model::Witness {
-        refusal: 0,
-        event: 0,
-        deadlock: true,
-        bytes: 2 * count,
-    }
+    witness_records(&recording[2..], pattern, out)
 }
