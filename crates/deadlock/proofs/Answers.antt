@@ -18,7 +18,7 @@ use Rattle.model.specs.Calls.Witness.{leastSchedule, witnessBytes, witnessRefus
 use Rattle.laws.specs.Answered.{refusedWitness}
 use Rattle.laws.proofs.Tests.{decided}
 use Rattle.deadlock.specs.Judged.{judged}
-use Rattle.deadlock.specs.Witnessed.{delivered, deliveredOut, witnessed, witnessedOut}
+use Rattle.deadlock.specs.Delivered.{delivered, deliveredOut, witnessFrom, witnessOutFrom}
 
 module _ (b p : List ℕ) where
   -- What is decided says whether the bytes are a pattern,
@@ -73,10 +73,10 @@ module _ (b p : List ℕ) where
 
   -- Of an accepted one the events decide.
   pub witness-accepted : (out : List ℕ) → check b .refusal ≡ 0
-      → (witness b p (length out) ≡ witnessed (trace b) p (length out))
-      × (witnessOut b p out ≡ witnessedOut (trace b) p out)
+      → (witness b p (length out) ≡ witnessFrom (trace b) p (length out))
+      × (witnessOut b p out ≡ witnessOutFrom (trace b) p out)
   unfolding witness witnessOut witnessRefusal verdictRefusal lendsPattern witnessBytes fitsOutput
-      witnessed witnessedOut delivered deliveredOut judged
+      witnessFrom witnessOutFrom delivered deliveredOut judged
   witness-accepted out c =
       let y = eq-eqb (check b .refusal) 0 c in
       let room = le-leb 0 (length out) (omega arith) in

@@ -4,5 +4,5 @@ pub mod Chains
 pub mod Verdicts
 pub mod Answers
 pub mod Written
-pub mod Witnessed
+pub mod Delivered
 pub mod Tabled

@@ -21,7 +21,7 @@ ghost use Rattle.laws.specs.Chain.{signature, start, fits, completing, chainOf}
 ghost use Rattle.laws.specs.Frontier.{Before};
 ghost use Rattle.frontier.specs.Visit.{Needed};
 ghost use Rattle.deadlock.specs.Judged.{Holding, joins, judged, Reached, behindAt, behind};
-ghost use Rattle.deadlock.specs.Witnessed.{delivered, deliveredOut, witnessed, witnessedOut};
+ghost use Rattle.deadlock.specs.Delivered.{delivered, deliveredOut, witnessFrom, witnessOutFrom};
 
 // Lock l is in the mask.
 pub fn in_mask(mask: u64, l: u64) -> bool
@@ -411,9 +411,9 @@ fn deliver(records: &[u8], front: &[u16], out: &mut [u8]) -> model::Witness
 // schedule of the frontier.
 fn witness_records(records: &[u8], pattern: &[u8], out: &mut [u8]) -> model::Witness
     requires { ⌜ (length (now records) ≤ 8190) × (checkEvents (decodeAll (now records)) .refusal ≡ 0) ⌝ }
-    ensures answer { λ r. ⌜ r ≡ witnessed (decodeAll (now (records .entry))) (now (pattern .entry))
+    ensures answer { λ r. ⌜ r ≡ witnessFrom (decodeAll (now (records .entry))) (now (pattern .entry))
         (length (now (out .entry))) ⌝ }
-    ensures output { λ r. ⌜ now (out .exit) ≡ witnessedOut (decodeAll (now (records .entry)))
+    ensures output { λ r. ⌜ now (out .exit) ≡ witnessOutFrom (decodeAll (now (records .entry)))
         (now (pattern .entry)) (now (out .entry)) ⌝ }
 {
     let mut front = [0u16; 16];

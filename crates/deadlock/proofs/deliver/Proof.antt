@@ -5,7 +5,7 @@ use native.Mathlib.Omega.{arith}
 use borrow.Author.Needs.{needs}
 use Rattle.model.specs.Recording.{decodeAll}
 use Rattle.deadlock.specs.Judged.{behind}
-use Rattle.deadlock.proofs.Witnessed.{delivered-short, delivered-written}
+use Rattle.deadlock.proofs.Delivered.{delivered-short, delivered-written}
 use Rattle.deadlock.proofs.deliver.Statement.{statement}
 use Rattle.deadlock.proofs.deliver.Tie as tie
 

@@ -3,7 +3,7 @@
 use mathlib.Core.Path.{sym, _∙_}
 use borrow.Author.Needs.{needs}
 use Rattle.model.specs.Recording.{decodeAll}
-use Rattle.deadlock.proofs.Witnessed.{witnessed-none, witnessed-not, witnessed-deadlock}
+use Rattle.deadlock.proofs.Delivered.{witnessFrom-none, witnessFrom-not, witnessFrom-deadlock}
 use Rattle.deadlock.proofs.witness_records.Statement.{statement}
 use Rattle.deadlock.proofs.witness_records.Tie as tie
 
@@ -21,7 +21,7 @@ returns c =
     let a = c .before .before .before .before .before .before .before .before .args in
     let is = c .before .before .before .judge .ensures .0 in
     let (x, y) =
-    witnessed-none (decodeAll (a .records .now)) (a .pattern .now) (a .out .now)
+    witnessFrom-none (decodeAll (a .records .now)) (a .pattern .now) (a .out .now)
     (sym is ∙ c .before .if1 .taken) in
     (c .unwritten .ensures ∙ x, y)
 
@@ -33,7 +33,7 @@ returns-2 c =
     let a = c .before .before .before .before .before .before .before .before .before .args in
     let is = c .before .before .before .before .judge .ensures .0 in
     let (x, y) =
-    witnessed-not (decodeAll (a .records .now)) (a .pattern .now) (a .out .now)
+    witnessFrom-not (decodeAll (a .records .now)) (a .pattern .now) (a .out .now)
     (λ q. c .before .before .if1 .left (is ∙ q)) (λ q. c .before .if2 .taken (is ∙ q)) in
     (c .unwritten2 .ensures ∙ x, y)
 
@@ -53,7 +53,7 @@ returns-3 c =
     let judged = c .before .before .before .before .before .before .before .before .judge in
     let two = c .before .before .before .before .before .if2 .left in
     let (x, y) =
-    witnessed-deadlock (decodeAll (a .records .now)) (a .pattern .now) (a .out .now)
+    witnessFrom-deadlock (decodeAll (a .records .now)) (a .pattern .now) (a .out .now)
     (sym (judged .ensures .0) ∙ two) _ (judged .ensures .1 two) in
     (c .before .before .deliver .ensures .0 ∙ x, c .before .before .deliver .ensures .1 ∙ y)
 

@@ -15,7 +15,7 @@ use Rattle.laws.specs.Answered.{refusedWitness}
 use Rattle.laws.proofs.Bytes.{encode-length}
 use Rattle.laws.proofs.Parts.{sets-written}
 use Rattle.deadlock.specs.Judged.{judged, Reached, behind}
-use Rattle.deadlock.specs.Witnessed.{delivered, deliveredOut, witnessed, witnessedOut}
+use Rattle.deadlock.specs.Delivered.{delivered, deliveredOut, witnessFrom, witnessOutFrom}
 use Rattle.deadlock.proofs.Written.{behind-schedule}
 
 -- ---- question 13
@@ -44,24 +44,24 @@ module _ (ns out : List ℕ) (n : ℕ) (count : n ≡ length ns) where
 
 module _ (σ : Trace) (p out : List ℕ) where
   -- Bytes that are no pattern.
-  pub witnessed-none : judged σ p ≡ 0
-      → (refusedWitness 10 0 ≡ witnessed σ p (length out)) × (out ≡ witnessedOut σ p out)
-  unfolding witnessed witnessedOut
-  witnessed-none q = (rw q, rw q)
+  pub witnessFrom-none : judged σ p ≡ 0
+      → (refusedWitness 10 0 ≡ witnessFrom σ p (length out)) × (out ≡ witnessOutFrom σ p out)
+  unfolding witnessFrom witnessOutFrom
+  witnessFrom-none q = (rw q, rw q)
 
   -- The verdict "not".
-  pub witnessed-not : judged σ p ≢ 0 → judged σ p ≢ 2
-      → (refusedWitness 0 0 ≡ witnessed σ p (length out)) × (out ≡ witnessedOut σ p out)
-  unfolding witnessed witnessedOut
-  witnessed-not some n =
+  pub witnessFrom-not : judged σ p ≢ 0 → judged σ p ≢ 2
+      → (refusedWitness 0 0 ≡ witnessFrom σ p (length out)) × (out ≡ witnessOutFrom σ p out)
+  unfolding witnessFrom witnessOutFrom
+  witnessFrom-not some n =
       let two = ne-eqb (judged σ p) 2 n in (rw (two, ne-eqb (judged σ p) 0 some), rw two)
 
   -- A deadlock's schedule is delivered, from the frontier of its predecessors.
-  pub witnessed-deadlock : judged σ p ≡ 2 → (front : List ℕ) → Reached σ (numbers p) front
-      → (delivered (encode (behind σ front)) (length out) ≡ witnessed σ p (length out))
-      × (deliveredOut (encode (behind σ front)) out ≡ witnessedOut σ p out)
-  unfolding witnessed witnessedOut
-  witnessed-deadlock y front z =
+  pub witnessFrom-deadlock : judged σ p ≡ 2 → (front : List ℕ) → Reached σ (numbers p) front
+      → (delivered (encode (behind σ front)) (length out) ≡ witnessFrom σ p (length out))
+      × (deliveredOut (encode (behind σ front)) out ≡ witnessOutFrom σ p out)
+  unfolding witnessFrom witnessOutFrom
+  witnessFrom-deadlock y front z =
       let two = eq-eqb (judged σ p) 2 y in
       let same = behind-schedule σ (numbers p) front z in
       (rw (two, same), rw (two, same))

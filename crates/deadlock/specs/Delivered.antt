@@ -24,13 +24,13 @@ unfoldable pub deliveredOut : List ℕ → List ℕ → List ℕ
 deliveredOut bytes out = cond (leb (length bytes) (length out)) (written bytes out) out
 
 -- The answer for the bytes of a pattern: question 10, and the verdict before question 13.
-unfoldable pub witnessed : Trace → List ℕ → ℕ → Witness
-witnessed σ p room =
+unfoldable pub witnessFrom : Trace → List ℕ → ℕ → Witness
+witnessFrom σ p room =
     cond (eqb (judged σ p) 2)
     (delivered (encode (leastSchedule σ (numbers p))) room)
     (refusedWitness (cond (eqb (judged σ p) 0) 10 0) 0)
 
 -- The output afterwards: as before, unless the verdict is deadlock.
-unfoldable pub witnessedOut : Trace → List ℕ → List ℕ → List ℕ
-witnessedOut σ p out =
+unfoldable pub witnessOutFrom : Trace → List ℕ → List ℕ → List ℕ
+witnessOutFrom σ p out =
     cond (eqb (judged σ p) 2) (deliveredOut (encode (leastSchedule σ (numbers p))) out) out
