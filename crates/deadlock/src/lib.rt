@@ -126,9 +126,10 @@ fn completes(records: &[u8], holding: &[u64], pattern: &[u8], a: usize) -> bool
     ensures { λ r. ⌜ r ≡ completing (decodeAll (now (records .entry)))
         (start (signature (decodeAll (now (records .entry)))) a) (drop 1 (numbers (now (pattern .entry)))) ⌝ }
 {
+    let held = holding[a];
     let mut last = a;
     let mut tasks = with_task(records, 0, a);
-    let mut guards = holding[a];
+    let mut guards = held;
     let mut i = 1;
     while i < pattern.len() / 2 {
         let e = recording::number(pattern, i) as usize;
@@ -140,7 +141,7 @@ fn completes(records: &[u8], holding: &[u64], pattern: &[u8], a: usize) -> bool
         guards = guards | holding[e];
         i = i + 1;
     }
-    lock_in_mask(records, holding[a], last)
+    lock_in_mask(records, held, last)
 }
 
 // Question 10: the lent bytes are a deadlock pattern of the records, smallest event first.

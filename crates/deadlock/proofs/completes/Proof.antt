@@ -20,23 +20,23 @@ use Rattle.deadlock.proofs.completes.Statement.{statement}
 use Rattle.deadlock.proofs.completes.Tie as tie
 
 abbrev Inv-loop : tie.InvT-loop
-Inv-loop records holding pattern a last₀ tasks₀ guards₀ i₀ last tasks guards i =
+Inv-loop records holding pattern a held last₀ tasks₀ guards₀ i₀ last tasks guards i =
     (1 ≤ i) × (i ≤ length pattern / 2) × (1 ≤ last) × (2 * last ≤ length records)
     × T (isAcquire (decodeAll records) last)
     × (completing (decodeAll records) (chainOf a last tasks guards) (drop i (numbers pattern))
     ≡ completing (decodeAll records) (start (signature (decodeAll records)) a) (drop 1 (numbers pattern)))
 
 abbrev μ-loop : tie.MeasureT-loop
-μ-loop records holding pattern a last₀ tasks₀ guards₀ i₀ last tasks guards i = length pattern / 2 - i
+μ-loop records holding pattern a held last₀ tasks₀ guards₀ i₀ last tasks guards i = length pattern / 2 - i
+
+mul-held : tie.Need-mul-held Inv-loop μ-loop
+mul-held c = search needs
+
+shared-slice-read-held : tie.Need-shared-slice-read-held Inv-loop μ-loop
+shared-slice-read-held c = search needs
 
 with-task-requires : tie.Need-with-task-requires Inv-loop μ-loop
 with-task-requires c κs = search needs
-
-mul-guards : tie.Need-mul-guards Inv-loop μ-loop
-mul-guards c = search needs
-
-shared-slice-read-guards : tie.Need-shared-slice-read-guards Inv-loop μ-loop
-shared-slice-read-guards c = search needs
 
 loop-holds : tie.Need-loop-holds Inv-loop μ-loop
 loop-holds c =
@@ -50,7 +50,7 @@ loop-holds c =
       s .pre .1,
       s .pre .5,
       completing-start (decodeAll b) a _ _ (drop 1 (numbers (s .args .pattern .now)))
-          (c .before .with-task .ensures) (s .pre .4 .at a (s .pre .0) (omega (arith, s .pre .1))),
+          (c .with-task .ensures) (s .pre .4 .at a (s .pre .0) (omega (arith, s .pre .1))),
     )
 
 number-requires : tie.Need-number-requires Inv-loop μ-loop
@@ -77,11 +77,11 @@ with-task-requires-2 : tie.Need-with-task-requires-2 Inv-loop μ-loop
 with-task-requires-2 c κs =
     let z = joins-event _ _ _ (sym (c .before .joins .ensures) ∙ not-false _ (c .if1 .left)) in (z .0, z .1)
 
-mul-guards-2 : tie.Need-mul-guards-2 Inv-loop μ-loop
-mul-guards-2 c = search needs
+mul-guards : tie.Need-mul-guards Inv-loop μ-loop
+mul-guards c = search needs
 
-shared-slice-read-guards-2 : tie.Need-shared-slice-read-guards-2 Inv-loop μ-loop
-shared-slice-read-guards-2 c =
+shared-slice-read-guards : tie.Need-shared-slice-read-guards Inv-loop μ-loop
+shared-slice-read-guards c =
     let p = c .before .before in
     let z = joins-event _ _ _ (sym (p .before .joins .ensures) ∙ not-false _ (p .if1 .left)) in search needs
 
@@ -114,26 +114,20 @@ loop-again c =
           (ap (bitOr (k .guards)) (s .pre .4 .at _ (z .0) (omega (arith, z .1)))) ∙ k .inv .5,
     )
 
-mul-lock-in-mask : tie.Need-mul-lock-in-mask Inv-loop μ-loop
-mul-lock-in-mask c = search needs
-
-shared-slice-read-lock-in-mask : tie.Need-shared-slice-read-lock-in-mask Inv-loop μ-loop
-shared-slice-read-lock-in-mask c = search needs
-
 lock-in-mask-requires : tie.Need-lock-in-mask-requires Inv-loop μ-loop
 lock-in-mask-requires c κs = search needs
 
 returns-2 : tie.Need-returns-2 Inv-loop μ-loop
 returns-2 c =
-    let s = c .before .before .before .before .before .before .before .before .before in
+    let s = c .before .before .before .before .before .before .before .before in
     let a = s .args in
-    let k = c .before .before .before .loop in
+    let k = c .before .before .loop in
     let size = decodeAll-length (a .records .now) in
     let count = numbers-length (a .pattern .now) in
     c .lock-in-mask .ensures
     ∙ rw (s .pre .4 .at (a .a) (s .pre .0) (omega (arith, s .pre .1)))
     (sym (completing-last (decodeAll (a .records .now)) (numbers (a .pattern .now)) (a .a) (k .last)
-    (k .tasks) (k .guards) (k .i) (omega (arith, c .before .before .loop-test .left))) ∙ k .inv .5)
+    (k .tasks) (k .guards) (k .i) (omega (arith, c .before .loop-test .left))) ∙ k .inv .5)
 
 pub completes-spec : {M : Type 1} → statement M
 completes-spec =
@@ -141,21 +135,19 @@ completes-spec =
     (tie.spec
     Inv-loop
     μ-loop
+    mul-held
+    shared-slice-read-held
     with-task-requires
-    mul-guards
-    shared-slice-read-guards
     loop-holds
     number-requires
     cast-e
     joins-requires
     returns
     with-task-requires-2
-    mul-guards-2
-    shared-slice-read-guards-2
+    mul-guards
+    shared-slice-read-guards
     add-i
     loop-less
     loop-again
-    mul-lock-in-mask
-    shared-slice-read-lock-in-mask
     lock-in-mask-requires
     returns-2)
