@@ -47,8 +47,8 @@ same-length c = search needs
 
 -- The entries fit the buffer.
 fits : (c : tie.After-slice-known2)
-    → c .before .before .before .before .before .before .before .before .search-all .result .bytes ≤ length {A =
-    ℕ} (replicate 65536 0)
+    → c .before .before .before .before .before .before .before .before .search-all .result .bytes
+    ≤ length {A = ℕ} (replicate 65536 0)
 fits c = rw (length-replicate {A = ℕ} 65536 0) (c .before .before .before .before .before .if2 .taken)
 
 returns-2 : tie.Need-returns-2

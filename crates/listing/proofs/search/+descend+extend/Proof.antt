@@ -1,5 +1,5 @@
--- `listing::search::descend` and `listing::search::extend` meet their contracts, by the number of events that may still
--- follow: the scan has taken what the events before the next one add. Assumes nothing.
+-- `listing::search::descend` and `listing::search::extend` meet their contracts, by the number of events
+-- that may still follow: the scan has taken what the events before the next one add. Assumes nothing.
 mod Cycle
 mod Descend
 mod Extend
@@ -10,8 +10,9 @@ use Rattle.listing.proofs.search.+descend+extend.Lts-descend as descend
 use Rattle.listing.proofs.search.+descend+extend.Lts-extend as extend-lts
 use Rattle.listing.proofs.search.+descend+extend.{statement}
 use Rattle.listing.proofs.search.+descend+extend.Tie.{close}
-use Rattle.listing.proofs.search.+descend+extend.Proof.Cycle.{μ-descend, μ-extend, descend-claims, descend-at}
-use Rattle.listing.proofs.search.+descend+extend.Proof.Cycle.{extend-claims, extend-at, Inv-loop, μ-loop}
+use Rattle.listing.proofs.search.+descend+extend.Proof.Cycle.{μ-descend, μ-extend, descend-claims}
+use Rattle.listing.proofs.search.+descend+extend.Proof.Cycle.{descend-at, extend-claims, extend-at}
+use Rattle.listing.proofs.search.+descend+extend.Proof.Cycle.{Inv-loop, μ-loop}
 use Rattle.listing.proofs.search.+descend+extend.Proof.Descend as d
 use Rattle.listing.proofs.search.+descend+extend.Proof.Extend as x
 use Rattle.listing.proofs.search.+descend+extend.Proof.Scan as scan

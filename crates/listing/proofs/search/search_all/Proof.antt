@@ -1,5 +1,5 @@
--- `listing::search::search_all` meets its contract: what the events before the next one begin has been taken. Assumes
--- nothing.
+-- `listing::search::search_all` meets its contract: what the events before the next one begin has been
+-- taken. Assumes nothing.
 use Prim.Native.Nat.{suc, _-_}
 use mathlib.Core.Path.{_≡_, refl, _∙_}
 use native.Mathlib.Omega.{arith}

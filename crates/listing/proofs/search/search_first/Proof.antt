@@ -1,5 +1,5 @@
--- `listing::search::search_first` meets its contract: an acquire whose lock does not lead back begins nothing.
--- Assumes nothing.
+-- `listing::search::search_first` meets its contract: an acquire whose lock does not lead back begins
+-- nothing. Assumes nothing.
 use mathlib.Core.Path.{refl, sym, _∙_}
 use native.Mathlib.Omega.{arith}
 use borrow.Author.Needs.{needs}

@@ -1,5 +1,5 @@
--- The cycle of `listing::search::descend` and `listing::search::extend`: its measures, what each may take of the other, and
--- the invariant of the scan. Assumes nothing.
+-- The cycle of `listing::search::descend` and `listing::search::extend`: its measures, what each may take of
+-- the other, and the invariant of the scan. Assumes nothing.
 use Prim.Native.Nat.{ℕ, _+_, _-_, _*_, _≤_, _<_}
 use mathlib.Core.Path.{_≡_, refl}
 use native.Mathlib.Omega.{arith}

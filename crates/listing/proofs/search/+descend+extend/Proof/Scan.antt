@@ -11,8 +11,8 @@ use Rattle.listing.proofs.Steps.{step-over, step-next}
 use Rattle.listing.proofs.Scans.{scanning-acquire}
 use Rattle.listing.proofs.search.extend.Reads as extend
 use Rattle.listing.proofs.search.+descend+extend.Lts-extend as lts
-use Rattle.listing.proofs.search.+descend+extend.Proof.Cycle.{extend-at, extend-claims, Inv-loop, μ-loop}
-use Rattle.listing.proofs.search.+descend+extend.Proof.Cycle.{chain-event, first-event}
+use Rattle.listing.proofs.search.+descend+extend.Proof.Cycle.{extend-at, extend-claims, Inv-loop}
+use Rattle.listing.proofs.search.+descend+extend.Proof.Cycle.{μ-loop, chain-event, first-event}
 
 module _ (t : ℕ) where
   pub sub-attempt : lts.Need-sub-attempt (extend-claims t) (extend-at t) extend.Post Inv-loop μ-loop
