@@ -1,12 +1,12 @@
 -- Visiting one event: what it adds to the wanted events, and to the latest acquires. The tables that it needs
 -- have the relations of each event.
-use Prim.Native.Nat.{ℕ, _≤_, _<_, min}
+use Prim.Native.Nat.{ℕ, _≤_, min}
 use mathlib.Core.Path.{_≡_}
 use mathlib.Core.Bool.{cond}
 use mathlib.Core.List.{List}
 use lib.Dec.{eqb}
 use lib.ListN.{length, getD}
-use Rattle.model.specs.Trace.{Trace, locks, task, object, isRead, isAcquire}
+use Rattle.model.specs.Trace.{Trace, task, object, isRead, isAcquire}
 use Rattle.model.specs.Relations.{predecessor, writer, matching}
 use Rattle.laws.specs.Frontier.{raised}
 
@@ -22,11 +22,6 @@ pub record Needed (σ : Trace) (predecessors writers matches : List ℕ) : Type 
   pub predecessor-long : length predecessors ≡ 4096
   pub predecessor-at : (e : ℕ) → 1 ≤ e → e ≤ length σ → getD predecessors e 0 ≡ predecessor σ e
   pub reading : Reading σ writers matches
-
--- A table of the latest acquire of each lock: numbers of events, or 0.
-pub record Acquires (σ : Trace) (latest : List ℕ) : Type 0 where
-  pub long : length latest ≡ locks
-  pub small : (l : ℕ) → l < locks → getD latest l 0 ≤ length σ
 
 -- The wanted events with the writer of event f, where it has one.
 unfoldable pub wantedWriter : Trace → List ℕ → ℕ → List ℕ

@@ -9,7 +9,7 @@ ghost use Rattle.model.specs.Relations.{predecessor, writer, matching};
 ghost use Rattle.model.specs.Recording.{decodeAll};
 ghost use Rattle.model.specs.Calls.Check.{checkEvents};
 ghost use Rattle.laws.specs.Frontier.{Settled, raised, Advanced, Turned};
-ghost use Rattle.frontier.specs.Visit.{Reading, Needed, Acquires, latestWith, wantedWith};
+ghost use Rattle.frontier.specs.Visit.{Reading, Needed, latestWith, wantedWith};
 ghost use Rattle.frontier.specs.Visit.{wantedWriter, wantedEarlier};
 
 // Raises entry i of a table of events, one for each task or each lock, to event e, where e is later.
@@ -90,8 +90,7 @@ fn visit(
 )
     requires { ⌜ (1 ≤ f) × (2 * f ≤ length (now records)) × (length (now records) ≤ 8190)
         × (checkEvents (decodeAll (now records)) .refusal ≡ 0) × (length (now want) ≡ tasks)
-        × Reading (decodeAll (now records)) (now writers) (now matches)
-        × Acquires (decodeAll (now records)) (now latest) ⌝ }
+        × (length (now latest) ≡ locks) × Reading (decodeAll (now records)) (now writers) (now matches) ⌝ }
     ensures wanted { λ r. ⌜ now (want .exit)
         ≡ wantedWith (decodeAll (now (records .entry))) (now (want .entry)) (now (latest .entry)) f ⌝ }
     ensures latest { λ r. ⌜ now (latest .exit)

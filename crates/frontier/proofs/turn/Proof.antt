@@ -10,7 +10,6 @@ use Rattle.laws.proofs.Trace.{decodeAll-length}
 use Rattle.laws.proofs.Relations.{predecessor-below}
 use Rattle.laws.proofs.Questions.{events-sound}
 use Rattle.frontier.proofs.Turning.{Turning, turning-begin, turning-step, turning-end}
-use Rattle.frontier.proofs.Turning.{turning-acquires}
 use Rattle.frontier.proofs.turn.Statement.{statement}
 use Rattle.frontier.proofs.turn.Tie as tie
 
@@ -84,8 +83,8 @@ visit-requires c κs =
       s .pre .0,
       s .pre .1,
       z .want-ok .long,
+      z .latest-long,
       s .pre .2 .reading,
-      turning-acquires _ _ _ _ _ _ _ z,
     )
 
 cast-f : tie.Need-cast-f Inv-loop μ-loop

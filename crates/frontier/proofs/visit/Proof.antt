@@ -18,8 +18,8 @@ visit-read-requires c κs =
     let event = record-event (s .args .records .now) (s .args .f) (s .pre .0, s .pre .1) in (
       s .pre .0,
       s .pre .1,
-      omega (arith, s .pre .1, s .pre .2, s .pre .5 .writer-long),
-      s .pre .5 .writer-at (s .args .f) (event .0) (event .1),
+      omega (arith, s .pre .1, s .pre .2, s .pre .6 .writer-long),
+      s .pre .6 .writer-at (s .args .f) (event .0) (event .1),
       s .pre .4,
     )
 
@@ -37,10 +37,10 @@ visit-acquire-requires c κs =
     let s = c .before .before .before .before .before .before .before .before .before .before in (
       s .pre .0,
       s .pre .1,
-      omega (arith, s .pre .1, s .pre .2, s .pre .5 .matching-long),
-      s .pre .5 .matching-at,
+      omega (arith, s .pre .1, s .pre .2, s .pre .6 .matching-long),
+      s .pre .6 .matching-at,
       s .pre .4,
-      s .pre .6 .long,
+      s .pre .5,
       acquire-lock (decodeAll (s .args .records .now)) (events-sound (s .args .records .now) (s .pre .3))
           (s .args .f) _ (c .before .before .before .before .operation .ensures .1)
           (c .before .before .if2 .taken),
