@@ -1,60 +1,28 @@
--- The events of a path, and what an attempt at one event more decides. Assumes nothing.
-use Prim.Native.Nat.{ℕ, suc, _+_, _*_, _≤_, _<_}
+-- What an attempt at one event more of a path decides. Assumes nothing.
+use Prim.Native.Nat.{ℕ, suc, _+_, _≤_, _<_}
 use mathlib.Core.Path.{_≡_, refl, sym, ap, _∙_}
 use mathlib.Core.Logic.{⊎-elim, _≢_}
 use mathlib.Core.Bool.{Bool, true, false, not, _&&_, and-true}
 use mathlib.Core.List.{List, [], _∷_, _++_}
 use native.Mathlib.Omega.{arith}
 use lib.Dec.{T, T-not, not-T, leb}
-use lib.ListN.{length, getD, take, drop, length-take, drop-of-length-le}
-use lib.Seq.{getD-take}
+use lib.ListN.{length, getD}
 use Rattle.model.specs.Lists.{all, hasBit}
 use Rattle.model.specs.Trace.{Trace, task, object, isEvent}
 use Rattle.model.specs.Relations.{predecessor, held}
-use Rattle.model.specs.Recording.{decodeAll}
 use Rattle.model.specs.Pattern.{isDeadlock}
 use Rattle.laws.specs.Chain.{Chain, signature, add}
 use Rattle.laws.specs.Frontier.{Settled, raised, Advanced, Before}
 use Rattle.laws.specs.Walk.{Returning}
 use Rattle.laws.proofs.Tests.{is-false, and-i, not-false, equal?}
-use Rattle.laws.proofs.Lists.{all-at, all-iff, all-append, all-fails}
+use Rattle.laws.proofs.Lists.{all-iff, all-append, all-fails}
 use Rattle.laws.proofs.Extensions.{branch-not, branch-nowhere}
 use Rattle.laws.proofs.Returning.{add-rooted, not-deadlock-later, before-again}
-use Rattle.laws.proofs.Trace.{isEvent-iff, decodeAll-length}
+use Rattle.laws.proofs.Trace.{isEvent-iff}
 use Rattle.laws.proofs.WellFormed.{WellFormed}
 use Rattle.laws.proofs.Pattern.{events-inside}
 use Rattle.laws.proofs.Before.{before-extend, before-deadlock}
-use Rattle.deadlock.proofs.Verdicts.{all-next}
 use Rattle.chain.specs.Attempted.{Along, Reusable, Attempted}
-
--- ---- the events of a path
-
--- An event of a path is one, and its record is there.
-pub path-event : (b path : List ℕ) (len i e : ℕ) → T (all (isEvent (decodeAll b)) (take len path))
-    → len ≤ length path → i < len → e ≡ getD path i 0 → (1 ≤ e) × (2 * e ≤ length b)
-path-event b path len i e t l h q =
-    let long = length-take len path in
-    let event = isEvent-iff (decodeAll b) (getD path i 0) .0
-    (rw (getD-take len path i 0 h) at (all-at 0 (isEvent (decodeAll b)) (take len path) i t (omega arith))) in
-    let size = decodeAll-length b in
-    omega arith
-
--- ---- the events of a path that are still to be asked
-
-module _ (f : ℕ → Bool) (path : List ℕ) (len i : ℕ) where
-  -- One event of the path is asked.
-  pub path-next : len ≤ length path → i < len → all f (drop i (take len path))
-      ≡ (f (getD path i 0) && all f (drop (i + 1) (take len path)))
-  path-next l h =
-      let long = length-take len path in
-      rw (all-next (decodeAll []) (take len path) i (omega arith) f, getD-take len path i 0 h)
-
-  -- All are asked.
-  pub path-end : len ≤ i → all f (drop i (take len path)) ≡ true
-  path-end h =
-      let long = length-take len path in
-      let done : length (take len path) ≤ i = omega arith in
-      rw (drop-of-length-le (take len path) done)
 
 -- ---- what is decided of one event more
 

@@ -1,38 +1,24 @@
--- The numbers of a pattern one by one: that each is an event, the frontier of their predecessors, and the
--- test of each against it. Assumes nothing.
-use Prim.Native.Nat.{ℕ, _+_, _*_, _/_, _≤_, _<_}
-use mathlib.Core.Path.{_≡_, ap}
+-- The frontier of the predecessors of a pattern's numbers, one by one, and what is decided by it. Assumes
+-- nothing.
+use Prim.Native.Nat.{ℕ, _+_, _≤_, _<_}
+use mathlib.Core.Path.{_≡_}
 use mathlib.Core.Bool.{Bool, true, false, cond, not, _&&_}
 use mathlib.Core.List.{List}
-use native.Mathlib.Omega.{arith}
 use native.Mathlib.Numerals.{add-one}
 use lib.Dec.{T, leb}
-use lib.ListN.{length, getD, take, drop}
-use lib.Seq.{drop-cons, take-suc}
+use lib.ListN.{length, getD, take}
+use lib.Seq.{take-suc}
 use Rattle.model.specs.Lists.{all}
 use Rattle.model.specs.Bytes.{numbers, isWhole}
 use Rattle.model.specs.Pattern.{isPattern}
 use Rattle.model.specs.Trace.{Trace, task, isEvent}
-use Rattle.model.specs.Recording.{decodeAll}
 use Rattle.model.specs.Relations.{predecessor}
 use Rattle.laws.specs.Frontier.{raised, Advanced, Before}
-use Rattle.laws.proofs.Lists.{all-at}
-use Rattle.laws.proofs.Bytes.{numbers-length}
-use Rattle.laws.proofs.Trace.{isEvent-iff, decodeAll-length}
 use Rattle.laws.proofs.WellFormed.{WellFormed}
 use Rattle.laws.proofs.Before.{before-extend, before-deadlock}
 use Rattle.laws.proofs.Tests.{and-r}
 use Rattle.laws.proofs.Pattern.{pattern-events}
 use Rattle.deadlock.specs.Judged.{judged, Reached}
-
--- A number of a list of events is one, and its record is there.
-pub number-event : (b p : List ℕ) (i e : ℕ) → T (all (isEvent (decodeAll b)) (numbers p)) → i < length p / 2
-    → e ≡ getD (numbers p) i 0 → (1 ≤ e) × (2 * e ≤ length b)
-number-event b p i e t h q =
-    let event = isEvent-iff (decodeAll b) (getD (numbers p) i 0) .0
-    (all-at 0 (isEvent (decodeAll b)) (numbers p) i t (omega (arith, numbers-length p))) in
-    let size = decodeAll-length b in
-    omega arith
 
 module _ (σ : Trace) (ns : List ℕ) (i : ℕ) (inside : i < length ns) where
   -- One event more of the frontier's list.
@@ -43,10 +29,6 @@ module _ (σ : Trace) (ns : List ℕ) (i : ℕ) (inside : i < length ns) where
   before-next ok front latest front′ latest′ e q z h k a =
       rw (add-one i, take-suc ns i 0 inside, ← q) (before-extend σ ok (take i ns) front latest e front′
       latest′ z h k a)
-
-  -- One number more is asked.
-  pub all-next : (f : ℕ → Bool) → all f (drop i ns) ≡ (f (getD ns i 0) && all f (drop (i + 1) ns))
-  all-next f = rw (add-one i) (ap (all f) (drop-cons ns i 0 inside))
 
 -- ---- what is decided
 

@@ -3,6 +3,5 @@ pub mod Laws
 pub mod Asking
 pub mod Noting
 pub mod Walk
-pub mod Pattern
 pub mod Witness
 pub mod Answers

@@ -1,17 +1,17 @@
 -- `deadlock::reach` meets its contract: the frontier is that of the numbers so far. Assumes nothing.
-use Prim.Native.Nat.{_-_, _/_, _≤_}
+use Prim.Native.Nat.{ℕ, _*_, _-_, _/_, _≤_, _<_}
 use mathlib.Core.Path.{_≡_, sym, _∙_}
 use native.Mathlib.Omega.{arith}
 use borrow.Author.Needs.{needs}
-use lib.ListN.{length, take}
+use lib.ListN.{length, getD, take}
 use lib.Seq.{take-all}
 use Rattle.model.specs.Bytes.{numbers}
 use Rattle.model.specs.Recording.{decodeAll}
 use Rattle.laws.specs.Frontier.{Before}
-use Rattle.laws.proofs.Bytes.{numbers-length}
-use Rattle.laws.proofs.Trace.{decodeAll-length}
+use Rattle.laws.proofs.Bytes.{numbers-length, numbers-inside}
+use Rattle.laws.proofs.Passing.{listed-event}
 use Rattle.laws.proofs.Questions.{events-sound}
-use Rattle.deadlock.proofs.Verdicts.{number-event, before-next}
+use Rattle.deadlock.proofs.Verdicts.{before-next}
 use Rattle.deadlock.proofs.reach.Statement.{statement}
 use Rattle.deadlock.proofs.reach.Tie as tie
 
@@ -23,6 +23,14 @@ Inv-loop records predecessors writers matches pattern front₀ want₀ latest₀
 abbrev μ-loop : tie.MeasureT-loop
 μ-loop records predecessors writers matches pattern front₀ want₀ latest₀ i₀ front want latest i = length
     pattern / 2 - i
+
+-- A number of the pattern is an event.
+event : (s : tie.Start Inv-loop μ-loop) {i e : ℕ} → i < length (s .args .pattern .now) / 2
+    → e ≡ getD (numbers (s .args .pattern .now)) i 0
+    → (1 ≤ e) × (e ≤ length (decodeAll (s .args .records .now))) × (2 * e ≤ length (s .args .records .now))
+event s {i} h is =
+    let p = s .args .pattern .now in
+    listed-event (s .args .records .now) (numbers p) i (s .pre .3) (numbers-inside p h) is
 
 loop-holds : tie.Need-loop-holds Inv-loop μ-loop
 loop-holds c =
@@ -40,11 +48,9 @@ extend-requires c κs =
     let s = c .before .before .before .before .before .before .before .before .before .before .before
     .before .before .before in
     let k = c .before .before .before .before .before .loop in
-    let event = number-event (s .args .records .now) (s .args .pattern .now)
-    (c .before .before .before .before .before .loop .i) _ (s .pre .3)
-    (c .before .before .before .before .loop-test .taken)
+    let (h, l, j) = event s (c .before .before .before .before .loop-test .taken)
     (c .before .before .before .number .ensures) in
-    (s .pre .0, s .pre .1, s .pre .2, k .inv .1 .settled, k .inv .2, event .0, event .1)
+    (s .pre .0, s .pre .1, s .pre .2, k .inv .1 .settled, k .inv .2, h, j)
 
 add-i : tie.Need-add-i Inv-loop μ-loop
 add-i c = search needs
@@ -59,30 +65,14 @@ loop-again c =
     let k = c .before .before .before .before .before .before .before .before .before .before .before
     .before .loop in
     let b = s .args .records .now in
-    let event = number-event (s .args .records .now) (s .args .pattern .now)
-    (c .before .before .before .before .before .before .before .before .before .before .before .before
-    .loop .i) _ (s .pre .3) (c .before .before .before .before .before .before .before .before
-    .before .before .before .loop-test .taken)
-    (c .before .before .before .before .before .before .before .before .before .before
-    .number .ensures) in
-    let size = decodeAll-length b in
-    let count = numbers-length (s .args .pattern .now) in
+    let n = c .before .before .before .before .before .before .before .before .before .before in
+    let more = n .before .loop-test .taken in
+    let (h, l, j) = event s more (n .number .ensures) in
     let done = c .before .before .before .before .before .before .extend .ensures in (
-      omega (
-        arith,
-        c .before .before .before .before .before .before .before .before .before .before
-            .before .loop-test .taken,
-      ),
+      omega (arith, more),
       before-next (decodeAll b) (numbers (s .args .pattern .now)) (k .i)
-          (omega (
-            arith,
-            c .before .before .before .before .before .before .before .before .before .before
-                .before .loop-test .taken,
-          ))
-          (events-sound b (s .pre .1)) (k .front) (k .latest) _ _ _
-          (c .before .before .before .before .before .before .before .before .before .before .number
-          .ensures) (k .inv .1) (event .0)
-          (omega arith) (done .0),
+          (numbers-inside (s .args .pattern .now) more) (events-sound b (s .pre .1)) (k .front) (k .latest)
+          _ _ _ (n .number .ensures) (k .inv .1) h l (done .0),
       done .1,
     )
 

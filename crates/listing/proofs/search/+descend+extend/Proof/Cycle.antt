@@ -1,14 +1,15 @@
 -- The cycle of `listing::search::descend` and `listing::search::extend`: its measures, what each may take of
 -- the other, and the invariant of the scan. Assumes nothing.
 use Prim.Native.Nat.{ℕ, _+_, _-_, _*_, _≤_, _<_}
-use mathlib.Core.Path.{_≡_, refl}
+use mathlib.Core.Path.{_≡_, sym}
 use native.Mathlib.Omega.{arith}
-use lib.ListN.{length, getD, take}
+use lib.ListN.{length, getD, take, length-take}
+use lib.Seq.{getD-take}
 use Rattle.model.specs.Recording.{decodeAll}
 use Rattle.model.specs.Pattern.{largestPattern}
 use Rattle.laws.proofs.Trace.{decodeAll-length}
+use Rattle.laws.proofs.Passing.{listed-event}
 use Rattle.laws.proofs.Firsts.{toVisit}
-use Rattle.chain.proofs.Laws.{path-event}
 use Rattle.listing.specs.Open.{chainAt}
 use Rattle.listing.proofs.Scans.{Scanning}
 use Rattle.listing.proofs.Steps.{Kept}
@@ -99,8 +100,11 @@ pub chain-event : (t : ℕ) (s : extend-lts.Start (extend-claims t) (extend-at t
     (s .args .records .now))
 chain-event t s i h =
     let o = s .pre .1 .1 in
-    path-event (s .args .records .now) (s .args .path .now) (s .args .len) i _ (o .events)
-    (omega (arith, o .sized, o .long)) h refl
+    let p = take (s .args .len) (s .args .path .now) in
+    let size = length-take (s .args .len) (s .args .path .now) in
+    let (low, high, inside) = listed-event (s .args .records .now) p i (o .events)
+    (omega (arith, o .sized, o .long)) (sym (getD-take (s .args .len) (s .args .path .now) i 0 h)) in
+    (low, inside)
 
 -- So is the first one.
 pub first-event : (t : ℕ) (s : extend-lts.Start (extend-claims t) (extend-at t) extend.Post Inv-loop
