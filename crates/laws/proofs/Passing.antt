@@ -1,5 +1,5 @@
--- A test of the numbers of a list one by one: while all have passed, the rest decides. The numbers of a list of
--- events have their records. Assumes nothing.
+-- A test of the numbers of a list one by one: while all have passed, the rest decides. The numbers of a list
+-- of events have their records. Assumes nothing.
 use Prim.Native.Nat.{ℕ, suc, _+_, _*_, _≤_, _<_}
 use mathlib.Core.Path.{_≡_}
 use mathlib.Core.Bool.{Bool, true, false}

@@ -29,28 +29,35 @@ use Rattle.deadlock.proofs.with_task.Reads as with-task-reads
 use Rattle.entries.proofs.take_pattern.Reads as take-pattern-reads
 use Rattle.pruning.proofs.following.Reads as following-reads
 
--- ---- the measures: the events that may still follow
+-- ---- the measures
 
+-- Twice the events that may still follow, and one more where one of them is at hand.
 abbrev pub μ-descend : Measures 12 descend-kinds.ps ℕ
 μ-descend κs a = 2 * a .1 .1 .1 .1 .1 .1 .1 .1 .1 .1 .0 + 1
 
+-- Twice the events that may still follow.
 abbrev pub μ-extend : Measures 12 extend-kinds.ps ℕ
 μ-extend κs a = 2 * a .1 .1 .1 .1 .1 .1 .1 .1 .1 .1 .0
 
+-- A call of `descend` with measure t.
 abbrev pub descend-at : ℕ → In 12 descend-kinds.ps
 descend-at t = and 12 descend-kinds.ps (is 12 descend-kinds.ps μ-descend t) descend.Pre
 
+-- One with a smaller measure.
 abbrev pub descend-below : ℕ → In 12 descend-kinds.ps
 descend-below t = and 12 descend-kinds.ps (falls 12 descend-kinds.ps _<_ μ-descend t) descend.Pre
 
+-- A call of `extend` with measure t.
 abbrev pub extend-at : ℕ → In 12 extend-kinds.ps
 extend-at t = and 12 extend-kinds.ps (is 12 extend-kinds.ps μ-extend t) extend.Pre
 
+-- One with a smaller measure.
 abbrev pub extend-below : ℕ → In 12 extend-kinds.ps
 extend-below t = and 12 extend-kinds.ps (falls 12 extend-kinds.ps _<_ μ-extend t) extend.Pre
 
 -- ---- what the functions that are called ask and ensure
 
+-- Those that `descend` calls.
 abbrev pub descend-claims : ℕ → descend-lts.Claims
 descend-claims t = (
   completes-reads.Asked,
@@ -63,6 +70,7 @@ descend-claims t = (
   extend.Post,
 )
 
+-- Those that `extend` calls.
 abbrev pub extend-claims : ℕ → extend-lts.Claims
 extend-claims t = (
   following-reads.Asked,
@@ -79,6 +87,8 @@ extend-claims t = (
 
 -- ---- the scan
 
+-- The path and the output keep their lengths, and the path its chain; what the events before e add was
+-- taken, and where a task's frontier is kept, it is that of an earlier event.
 abbrev pub Inv-loop : extend-lts.InvT-loop
 Inv-loop records holding predecessors writers matches next blocks back path₀ len left tasks guards
     front latest out₀ room last grown₀ newest₀ of₀ excluded₀ taken₀ e₀ path out grown newest of excluded
@@ -88,6 +98,7 @@ Inv-loop records holding predecessors writers matches next blocks back path₀ l
     taken₀ taken
     × Kept (decodeAll records) (take len path₀) of e grown newest
 
+-- The events from e on.
 abbrev pub μ-loop : extend-lts.MeasureT-loop
 μ-loop records holding predecessors writers matches next blocks back path₀ len left tasks guards front
     latest out₀ room last grown₀ newest₀ of₀ excluded₀ taken₀ e₀ path out grown newest of excluded taken e =
