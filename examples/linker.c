@@ -4,7 +4,8 @@
  *     linker [-k SIZE] [-o BYTES] RECORDING...
  *
  * -k gives the largest size of a pattern (2 without it), -o the length of the listing's output (65,536). The
- * exit status is 1 where the verdict of a listed pattern is not deadlock, and 2 for wrong arguments. */
+ * exit status is 1 where the verdict of a listed pattern is not deadlock, and 2 for wrong arguments or a file
+ * that cannot be read. */
 #include "hidzvoma.h"
 
 #include <stdio.h>

@@ -13,7 +13,7 @@ use Rattle.model.specs.Relations.{predecessor, held}
 use Rattle.model.specs.Pattern.{isDeadlock}
 use Rattle.laws.specs.Chain.{Chain, signature, add}
 use Rattle.laws.specs.Frontier.{Settled, raised, Advanced, Before}
-use Rattle.laws.specs.Walk.{Returning}
+use Rattle.laws.specs.Returning.{Returning}
 use Rattle.laws.proofs.Tests.{is-false, and-i, not-false, equal?}
 use Rattle.laws.proofs.Lists.{all-iff, all-append, all-fails}
 use Rattle.laws.proofs.Extensions.{branch-not, branch-nowhere}

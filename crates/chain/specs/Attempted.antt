@@ -8,7 +8,8 @@ use lib.ListN.{length}
 use Rattle.model.specs.Trace.{Trace, task}
 use Rattle.model.specs.Pattern.{isDeadlock}
 use Rattle.laws.specs.Chain.{Chain}
-use Rattle.laws.specs.Walk.{branch, Rooted}
+use Rattle.laws.specs.Walk.{branch}
+use Rattle.laws.specs.Returning.{Rooted}
 use Rattle.laws.specs.Frontier.{Before}
 
 -- The chain has these events, and its first one's task and held locks in its masks.

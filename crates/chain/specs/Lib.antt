@@ -1,2 +1,2 @@
--- Definitions for the contracts of inner functions. No public contract names one.
+-- Definitions for the contracts of inner functions. No call's contract names one.
 pub mod Attempted

@@ -14,7 +14,7 @@ ghost use Rattle.model.specs.Recording.{decodeAll};
 ghost use Rattle.model.specs.Pattern.{largestPattern};
 ghost use Rattle.model.specs.Calls.Check.{checkEvents};
 ghost use Rattle.laws.specs.Frontier.{Settled, Before};
-ghost use Rattle.laws.specs.Walk.{Returning};
+ghost use Rattle.laws.specs.Returning.{Returning};
 ghost use Rattle.frontier.specs.Visit.{Needed};
 ghost use Rattle.chain.specs.Attempted.{Reusable, Attempted};
 

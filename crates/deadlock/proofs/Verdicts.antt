@@ -5,19 +5,18 @@ use mathlib.Core.Path.{_≡_}
 use mathlib.Core.Bool.{Bool, true, false, cond, not, _&&_}
 use mathlib.Core.List.{List}
 use native.Mathlib.Numerals.{add-one}
-use lib.Dec.{T, leb}
+use lib.Dec.{leb}
 use lib.ListN.{length, getD, take}
 use lib.Seq.{take-suc}
 use Rattle.model.specs.Lists.{all}
 use Rattle.model.specs.Bytes.{numbers, isWhole}
 use Rattle.model.specs.Pattern.{isPattern}
-use Rattle.model.specs.Trace.{Trace, task, isEvent}
+use Rattle.model.specs.Trace.{Trace, task}
 use Rattle.model.specs.Relations.{predecessor}
 use Rattle.laws.specs.Frontier.{raised, Advanced, Before}
 use Rattle.laws.proofs.WellFormed.{WellFormed}
 use Rattle.laws.proofs.Before.{before-extend, before-deadlock}
-use Rattle.laws.proofs.Tests.{and-r}
-use Rattle.laws.proofs.Pattern.{pattern-events}
+use Rattle.laws.proofs.Pattern.{lent-events}
 use Rattle.deadlock.specs.Judged.{judged, Reached}
 
 module _ (σ : Trace) (ns : List ℕ) (i : ℕ) (inside : i < length ns) where
@@ -39,17 +38,12 @@ module _ (σ : Trace) (p : List ℕ) where
   judged-none n = rw n
 
   module _ (y : (isWhole p && isPattern σ (numbers p)) ≡ true) where
-    -- The numbers of a pattern are events.
-    pub judged-events : T (all (isEvent σ) (numbers p))
-    judged-events =
-        let t : T (isWhole p && isPattern σ (numbers p)) = rw y tt in
-        pattern-events σ (numbers p) (and-r (isWhole p) _ t)
-
     -- The frontier of its predecessors decides.
     pub judged-verdict : (front latest : List ℕ) (v : Bool) → Before σ (numbers p) front latest
         → v ≡ all (λ e. not (leb e (getD front (task σ e) 0))) (numbers p) → cond v 2 1 ≡ judged σ p
     unfolding judged
-    judged-verdict front latest v z q = rw (y, q, before-deadlock σ (numbers p) front latest z judged-events)
+    judged-verdict front latest v z q =
+        rw (y, q, before-deadlock σ (numbers p) front latest z (lent-events σ p y))
 
   -- The frontier is that of the closure.
   pub judged-reached : (front latest : List ℕ) → Before σ (numbers p) front latest → Reached σ (numbers p)

@@ -1,4 +1,4 @@
--- Laws of frontiers: what raising one does, and what visiting one event more does. Assumes nothing.
+-- Laws of frontiers: what raising one does, and what a closed set has of one. Assumes nothing.
 use Prim.Native.Nat.{ℕ, zero, suc, _-_, _≤_, _<_}
 use mathlib.Core.Path.{_≡_, refl, sym, _∙_}
 use mathlib.Core.Logic.{_⊎_, inl, inr, ⊎-elim, _≢_}

@@ -17,7 +17,8 @@ use Rattle.model.specs.Relations.{predecessor, held}
 use Rattle.model.specs.EventSet.{has}
 use Rattle.model.specs.Pattern.{isDeadlock, closureBefore}
 use Rattle.laws.specs.Chain.{Chain, signature, start, add, fits}
-use Rattle.laws.specs.Walk.{extensions, branch, Rooted, Covers, Leading, Spread, Returning}
+use Rattle.laws.specs.Walk.{extensions, branch}
+use Rattle.laws.specs.Returning.{Rooted, Covers, Leading, Spread, Returning}
 use Rattle.laws.proofs.Tests.{T-ext, decided, and-iff, or-l, is-false, eq→eqb}
 use Rattle.laws.proofs.Lists.{from-iff}
 use Rattle.laws.proofs.Filters.{each-none}

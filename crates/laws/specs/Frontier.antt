@@ -56,7 +56,8 @@ pub record Entails (σ : Trace) (given want : List ℕ) : Type 0 where
       → ((t : ℕ) → t < tasks → getD given t 0 ≢ 0 → T (v (getD given t 0)))
       → (t : ℕ) → t < tasks → getD want t 0 ≢ 0 → T (v (getD want t 0))
 
--- The frontier with event e of task t, where it is later.
+-- The table with event e at entry t, where it is later: a frontier at a task, or the latest acquires at a
+-- lock.
 abbrev pub raised : List ℕ → ℕ → ℕ → List ℕ
 raised want t e = cond (ltb (getD want t 0) e) (set want t e) want
 

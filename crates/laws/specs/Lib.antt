@@ -1,8 +1,9 @@
 -- Definitions for the contracts of inner functions: what the tables of a walk hold, the shapes of answers,
--- frontiers, rows of bits, chains and their search. No public contract names one.
+-- frontiers, rows of bits, chains and their search. No call's contract names one.
 pub mod Walked
 pub mod Answered
 pub mod Frontier
 pub mod BitRow
 pub mod Chain
 pub mod Walk
+pub mod Returning

@@ -6,12 +6,10 @@ use mathlib.Core.Logic.{_≢_}
 use mathlib.Core.Bool.{Bool, false, cond, not}
 use mathlib.Core.List.{List, [], _∷_, _++_}
 use lib.Dec.{T, eqb}
-use lib.Bits.{bitAnd}
-use lib.ListN.{length, getD}
-use Rattle.model.specs.Lists.{from, hasBit}
-use Rattle.model.specs.Trace.{Trace, locks, task, object, isAcquire}
-use Rattle.model.specs.Relations.{held}
-use Rattle.model.specs.Pattern.{largestPattern, isDeadlock}
+use lib.ListN.{length}
+use Rattle.model.specs.Lists.{from}
+use Rattle.model.specs.Trace.{Trace, isAcquire}
+use Rattle.model.specs.Pattern.{isDeadlock}
 use Rattle.laws.specs.Chain.{Signature, Chain, signature, start, add, fits, closes}
 
 module _ {ℓ κ} {A : Type ℓ} {B : Type κ} where
@@ -66,37 +64,3 @@ branch σ k c e =
 -- The deadlocks that begin with event a and have at most k more.
 unfoldable pub beginning : Trace → ℕ → ℕ → List (List ℕ)
 beginning σ k a = cond (isAcquire σ a) (extensions σ k (start (signature σ) a)) []
-
--- ---- which chains lead nowhere
-
--- The chain has its first event's task and held locks in its masks.
-pub record Rooted (σ : Trace) (c : Chain) : Type 0 where
-  pub first-task : T (hasBit (c .tasks) (task σ (c .first)))
-  pub guarded : (m : ℕ) → T (eqb (bitAnd (c .guards) m) 0) → T (eqb (bitAnd (held σ (c .first)) m) 0)
-
--- The first mask's locks are in the second.
-abbrev pub Covers : ℕ → ℕ → Type 0
-Covers inner outer = (l : ℕ) → T (hasBit inner l) → T (hasBit outer l)
-
--- For each lock, the locks held at its acquires after event a, by other tasks than t and with none of the
--- held locks given. The table may have more.
-pub record Leading (σ : Trace) (a t guards : ℕ) (lead : List ℕ) : Type 0 where
-  pub long : length lead ≡ locks
-  pub leads : (e : ℕ) → a < e → e ≤ length σ → T (isAcquire σ e) → task σ e ≢ t
-      → T (eqb (bitAnd guards (held σ e)) 0) → Covers (held σ e) (getD lead (object σ e) 0)
-
--- Each entry has the locks of the one before it, and those that lead to them. The table may have more.
-pub record Spread (lead : List ℕ) (count : ℕ) (back : List ℕ) : Type 0 where
-  pub long : length back ≡ largestPattern
-  pub grows : (i : ℕ) → suc i < count → Covers (getD back i 0) (getD back (suc i) 0)
-  pub leads : (i : ℕ) → suc i < count → (m : ℕ) → m < locks → T (hasBit (getD back i 0) m)
-      → Covers (getD lead m 0) (getD back (suc i) 0)
-
--- Entry i has the locks from which a chain that begins with event a may be completed by i more events: a
--- chain whose last lock is not there leads nowhere. Entry 0 has the locks that complete it.
-pub record Returning (σ : Trace) (a count : ℕ) (back : List ℕ) : Type 0 where
-  pub long : length back ≡ largestPattern
-  pub complete : getD back 0 0 ≡ held σ a
-  pub covers : (i : ℕ) → i < count → Covers (held σ a) (getD back i 0)
-  pub nowhere : (i : ℕ) → i < count → (c : Chain) → c .first ≡ a → Rooted σ c
-      → hasBit (getD back i 0) (object σ (c .last)) ≡ false → extensions σ i c ≡ []

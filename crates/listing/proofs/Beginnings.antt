@@ -17,7 +17,8 @@ use Rattle.model.specs.Listing.{deadlocks}
 use Rattle.laws.specs.Chain.{signature, start}
 use Rattle.laws.specs.Frontier.{Before}
 use Rattle.chain.specs.Attempted.{Reusable}
-use Rattle.laws.specs.Walk.{each, upTo, beginning, Returning}
+use Rattle.laws.specs.Walk.{each, upTo, beginning}
+use Rattle.laws.specs.Returning.{Returning}
 use Rattle.entries.specs.declared.Found.{Found}
 use Rattle.entries.specs.Taken.{Taken, Adds, Roomy}
 use Rattle.entries.proofs.Laws.{taken-start, taken-over}

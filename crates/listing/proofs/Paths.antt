@@ -14,7 +14,8 @@ use Rattle.model.specs.Lists.{hasBit}
 use Rattle.model.specs.Trace.{Trace, task, object, isAcquire}
 use Rattle.model.specs.Relations.{held}
 use Rattle.laws.specs.Chain.{signature, add, fits}
-use Rattle.laws.specs.Walk.{extensions, branch, Returning}
+use Rattle.laws.specs.Walk.{extensions, branch}
+use Rattle.laws.specs.Returning.{Returning}
 use Rattle.laws.proofs.Tests.{and-iff}
 use Rattle.laws.proofs.Extensions.{extensions-zero, branch-closes, branch-longer}
 use Rattle.laws.proofs.Returning.{add-rooted}

@@ -13,7 +13,8 @@ use borrow.Author.Tests.{ne-eqb, eqb-true}
 use Rattle.model.specs.Lists.{from, hasBit}
 use Rattle.model.specs.Trace.{Trace, task, isAcquire}
 use Rattle.laws.specs.Chain.{Chain, signature, fits, chainOf}
-use Rattle.laws.specs.Walk.{each, First, upTo, extensions, branch, Covers}
+use Rattle.laws.specs.Walk.{each, First, upTo, extensions, branch}
+use Rattle.laws.specs.Returning.{Covers}
 use Rattle.laws.proofs.Tests.{and-iff, not-mono, decided, or-l, is-true, equal?}
 use Rattle.laws.proofs.Bits.{hasBit-set}
 use Rattle.laws.proofs.Lists.{from-split}

@@ -15,7 +15,8 @@ use Rattle.model.specs.Trace.{Trace, tasks, task, isEvent}
 use Rattle.model.specs.Pattern.{largestPattern}
 use Rattle.laws.specs.Chain.{Chain, signature, fits}
 use Rattle.laws.specs.Frontier.{Before}
-use Rattle.laws.specs.Walk.{First, extensions, branch, Returning}
+use Rattle.laws.specs.Walk.{First, extensions, branch}
+use Rattle.laws.specs.Returning.{Returning}
 use Rattle.laws.proofs.WellFormed.{WellFormed}
 use Rattle.laws.proofs.Tests.{equal?}
 use Rattle.chain.specs.Attempted.{Along, Reusable, Attempted}

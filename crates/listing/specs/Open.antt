@@ -13,7 +13,8 @@ use Rattle.model.specs.Pattern.{largestPattern, isDeadlock}
 use Rattle.model.specs.Calls.Check.{checkEvents}
 use Rattle.laws.specs.Chain.{Chain, signature, fits}
 use Rattle.laws.specs.Frontier.{Before}
-use Rattle.laws.specs.Walk.{branch, Rooted}
+use Rattle.laws.specs.Walk.{branch}
+use Rattle.laws.specs.Returning.{Rooted}
 use Rattle.frontier.specs.Visit.{Needed}
 use Rattle.deadlock.specs.Judged.{Holding}
 use Rattle.pruning.specs.Linked.{Linked, Marked}

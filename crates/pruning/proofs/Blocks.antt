@@ -14,7 +14,8 @@ use Rattle.model.specs.Lists.{hasBit}
 use Rattle.model.specs.Trace.{Trace, object, isAcquire}
 use Rattle.model.specs.Relations.{held}
 use Rattle.laws.specs.Chain.{Chain, signature, fits}
-use Rattle.laws.specs.Walk.{First, upTo, Covers}
+use Rattle.laws.specs.Walk.{First, upTo}
+use Rattle.laws.specs.Returning.{Covers}
 use Rattle.laws.proofs.Tests.{is-true, is-false, decided, equal?, at-most?}
 use Rattle.laws.proofs.Trace.{acquire-event}
 use Rattle.laws.proofs.Firsts.{Tried, tried-start, tried-skip, tried-found, tried-none}

@@ -10,7 +10,7 @@ use lib.Bits.{bitAnd, bitOr}
 use lib.ListN.{length, getD, set, length-set}
 use Rattle.model.specs.Trace.{Trace, locks, task, object, isAcquire}
 use Rattle.model.specs.Relations.{held}
-use Rattle.laws.specs.Walk.{Covers, Leading}
+use Rattle.laws.specs.Returning.{Covers, Leading}
 use Rattle.laws.proofs.Tests.{equal?, at-most?}
 use Rattle.pruning.specs.Linked.{isNested, Link, Led}
 use Rattle.pruning.proofs.Links.{acquire-free}

@@ -11,7 +11,7 @@ use lib.Seq.{getD-set-same, getD-set-other}
 use Rattle.model.specs.Lists.{hasBit}
 use Rattle.model.specs.Trace.{locks}
 use Rattle.model.specs.Pattern.{largestPattern}
-use Rattle.laws.specs.Walk.{Covers, Spread}
+use Rattle.laws.specs.Returning.{Covers, Spread}
 use Rattle.laws.proofs.Bits.{hasBit-none, hasBit-or}
 use Rattle.laws.proofs.Tests.{or-l, or-r, equal?}
 

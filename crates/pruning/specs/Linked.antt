@@ -1,5 +1,5 @@
--- The acquires that can stand in a pattern, as links from each event to the next of them, and the table of
--- locks that lead to each other on the way to being filled.
+-- The acquires that can stand in a pattern, as links from each event to the next of them and by the locks
+-- that are held in blocks of 64 events, and the table of locks that lead to each other while it is filled.
 use Prim.Native.Nat.{ℕ, _/_, _≤_, _<_}
 use mathlib.Core.Path.{_≡_}
 use mathlib.Core.Logic.{_≢_}
@@ -11,7 +11,8 @@ use lib.ListN.{length, getD}
 use Rattle.model.specs.Lists.{hasBit}
 use Rattle.model.specs.Trace.{Trace, locks, task, object, isAcquire}
 use Rattle.model.specs.Relations.{held}
-use Rattle.laws.specs.Walk.{First, Covers}
+use Rattle.laws.specs.Walk.{First}
+use Rattle.laws.specs.Returning.{Covers}
 
 -- An acquire at which its task holds a lock.
 abbrev pub isNested : Trace → ℕ → Bool

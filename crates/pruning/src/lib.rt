@@ -1,5 +1,5 @@
 // What the search for deadlocks passes over: events that hold no lock, by links to the next one that does,
-// and chains whose last lock cannot lead back to the first event.
+// blocks of events in which none holds the last lock, and chains that cannot lead back to the first event.
 ghost use Prim.Native.Nat.{ℕ, _+_, _-_, _*_, _<_, _≤_};
 ghost use mathlib.Core.Path.{_≡_};
 ghost use mathlib.Core.Bool.{cond};
@@ -12,7 +12,8 @@ ghost use Rattle.model.specs.Recording.{decodeAll};
 ghost use Rattle.model.specs.Pattern.{largestPattern};
 ghost use Rattle.model.specs.Calls.Check.{checkEvents};
 ghost use Rattle.laws.specs.Chain.{signature, fits, chainOf};
-ghost use Rattle.laws.specs.Walk.{First, Covers, Leading, Spread, Returning};
+ghost use Rattle.laws.specs.Walk.{First};
+ghost use Rattle.laws.specs.Returning.{Covers, Leading, Spread, Returning};
 ghost use Rattle.deadlock.specs.Judged.{Holding};
 ghost use Rattle.pruning.specs.Linked.{isNested, Linked, Marked, isNear, Led};
 

@@ -1,7 +1,7 @@
 -- What noting one event does to the tables, with its operation, task and object as they were unpacked.
 -- Assumes nothing.
 use Prim.Native.Nat.{ℕ, _+_, _*_, _%_, _^_, _≤_, _<_}
-use mathlib.Core.Path.{_≡_, _∙_}
+use mathlib.Core.Path.{_≡_, sym, _∙_}
 use mathlib.Core.Logic.{⊎-elim, _≢_}
 use mathlib.Core.Bool.{true, false, _||_}
 use mathlib.Core.List.{List}
@@ -16,6 +16,7 @@ use Rattle.model.specs.Recording.{decodeAll}
 use Rattle.model.specs.Relations.{predecessor, writer, held}
 use Rattle.model.specs.Calls.Check.{checkEvents}
 use Rattle.laws.specs.Walked.{Filled, LatestEvents, Locksets, Matches}
+use Rattle.laws.proofs.Relations.{writer-none}
 use Rattle.laws.proofs.Tests.{or-l, or-r, is-true, equal?}
 use Rattle.laws.proofs.Trace.{record-event}
 use Rattle.laws.proofs.LatestEvents.{latest-set, latest-keep, latest-writer, latest-predecessor, filled-set}
@@ -58,9 +59,9 @@ module _ (σ : Trace) (e op v : ℕ) (is-op : (op < 4) × (op ≡ at σ e .op))
   -- Another event has no writer.
   pub no-writer-noted : op ≢ 0 → (table : List ℕ) → Filled (writer σ) e table → e < length table
       → Filled (writer σ) (e + 1) (set table e 0)
-  unfolding writer
   no-writer-noted d table f l =
-      filled-set (writer σ) e 0 table f l (rw (isRead-op σ e (is-op .1), ne-eqb op 0 d))
+      filled-set (writer σ) e 0 table f l (sym (writer-none σ e
+      (isRead-op σ e (is-op .1) ∙ ne-eqb op 0 d)))
 
   -- A write is the latest of its variable.
   pub write-noted : op ≡ 1 → LatestEvents (isWrite σ) (object σ) (e + 1) (set writes v e)

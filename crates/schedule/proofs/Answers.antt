@@ -5,12 +5,11 @@ use mathlib.Core.Logic.{_≢_}
 use mathlib.Core.Bool.{Bool, true, false, cond, _&&_}
 use mathlib.Core.List.{List}
 use native.Mathlib.Omega.{arith}
-use lib.Dec.{T, eqb}
+use lib.Dec.{eqb}
 use borrow.Author.Tests.{eq-eqb, ne-eqb}
 use Rattle.model.specs.declared.Checked.{Checked}
-use Rattle.model.specs.Lists.{all}
 use Rattle.model.specs.Bytes.{numbers, isWhole}
-use Rattle.model.specs.Trace.{Trace, isEvent}
+use Rattle.model.specs.Trace.{Trace}
 use Rattle.model.specs.Recording.{trace}
 use Rattle.model.specs.Pattern.{isPattern}
 use Rattle.model.specs.Schedule.{witnesses}
@@ -18,8 +17,7 @@ use Rattle.model.specs.Calls.Questions.{lendsPattern}
 use Rattle.model.specs.Calls.Check.{check}
 use Rattle.model.specs.Calls.Verdict.{verdictRefusal}
 use Rattle.model.specs.Calls.CheckSchedule.{checkSchedule}
-use Rattle.laws.proofs.Tests.{and-r, decided}
-use Rattle.laws.proofs.Pattern.{pattern-events}
+use Rattle.laws.proofs.Tests.{decided}
 use Rattle.schedule.specs.Listed.{answered}
 
 -- ---- what is decided
@@ -31,12 +29,6 @@ module _ (σ : Trace) (p ρ : List ℕ) where
   answered-none n = rw n
 
   module _ (y : (isWhole p && isPattern σ (numbers p)) ≡ true) where
-    -- The numbers of a pattern are events.
-    pub answered-events : T (all (isEvent σ) (numbers p))
-    answered-events =
-        let t : T (isWhole p && isPattern σ (numbers p)) = rw y tt in
-        pattern-events σ (numbers p) (and-r (isWhole p) _ t)
-
     -- The schedule decides.
     pub answered-some : (v : Bool) → v ≡ (isWhole ρ && witnesses σ (numbers ρ) (numbers p))
         → cond v 2 1 ≡ answered σ p ρ

@@ -1,5 +1,5 @@
 -- What listing one event more does to the tables, and how they begin. Assumes nothing.
-use Prim.Native.Nat.{ℕ, zero, suc, _≤_, _<_}
+use Prim.Native.Nat.{ℕ, _≤_, _<_}
 use mathlib.Core.Path.{_≡_, refl, sym, ap, _∙_}
 use mathlib.Core.Logic.{⊎-elim, _≢_}
 use mathlib.Core.Bool.{true, false, _||_}
@@ -16,7 +16,7 @@ use Rattle.model.specs.Relations.{matching}
 use Rattle.model.specs.Schedule.{latestWrite, mayFollow}
 use Rattle.laws.specs.Frontier.{Frontier}
 use Rattle.laws.proofs.Tests.{and-i, or-l, or-r, or-elim, T-ext, eq→eqb, equal?, at-most?}
-use Rattle.laws.proofs.Lists.{member-iff}
+use Rattle.laws.proofs.Lists.{member-iff, zeros}
 use Rattle.laws.proofs.Trace.{isEvent-iff, sameTask-iff, sameObject-iff}
 use Rattle.laws.proofs.WellFormed.{WellFormed, acquire-lock}
 use Rattle.laws.proofs.Faults.{isWrite-op, isAcquire-op}
@@ -27,29 +27,24 @@ use Rattle.schedule.proofs.Laws.{listed-iff, Clear}
 
 -- ---- the start
 
-clear-at : (n i : ℕ) → _≡_ {A = ℕ} (getD (replicate n 0) i 0) 0
-clear-at zero i = refl
-clear-at (suc n) zero = refl
-clear-at (suc n) (suc i) = clear-at n i
-
 -- Where nothing is listed, the tables are clear.
 pub listed-start : (σ : Trace) → Listed σ [] (replicate tasks 0) (replicate locks 0) (replicate variables 0)
 unfolding latestWrite
 listed-start σ = record {
   up-to = record {
-    front = record { long = refl; own = λ t l d. absurd (d (clear-at tasks t)) };
+    front = record { long = refl; own = λ t l d. absurd (d (zeros tasks t)) };
     event = λ e m. absurd (List·Memᴰ·not-nil m);
-    listed = λ e h k. rw (clear-at tasks (task σ e)) (sym (lt-leb e 0 h));
+    listed = λ e h k. rw (zeros tasks (task σ e)) (sym (lt-leb e 0 h));
   };
   acquired = record {
     long = length-replicate {A = ℕ} locks 0;
-    listed = λ l h d. absurd (d (clear-at locks l));
+    listed = λ l h d. absurd (d (zeros locks l));
     latest = λ e m. absurd (List·Memᴰ·not-nil m);
     matched = λ e m. absurd (List·Memᴰ·not-nil m);
   };
   written = record {
     long = length-replicate {A = ℕ} variables 0;
-    last = λ e h. sym (clear-at variables (object σ e));
+    last = λ e h. sym (zeros variables (object σ e));
   };
 }
 

@@ -1,5 +1,5 @@
--- The tables of a walk through a schedule, by what they hold: the relations of the recording, and what is
--- listed. `before` is what is listed, the latest first.
+-- The tables of a walk through a schedule, by what they hold of what is listed, and what is decided of the
+-- lent bytes, as one number. `before` is what is listed, the latest first.
 use Prim.Native.Nat.{ℕ, _≤_, _<_}
 use mathlib.Core.Path.{_≡_}
 use mathlib.Core.Logic.{_≢_}

@@ -1,5 +1,6 @@
 // Entries for measuring: the check alone, the check with the tables of every event filled after it, the
-// decision on one pattern many times over, and a number of each other call's answer.
+// decision on one pattern many times over, and a number of each other call's answer but for the listing's and
+// the verdict's, whose entries for C are measured.
 ghost use Prim.Native.Nat.{_<_, _≤_};
 ghost use mathlib.Core.Path.{_≡_};
 ghost use mathlib.Core.Bool.{cond};

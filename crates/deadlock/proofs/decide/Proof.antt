@@ -9,7 +9,8 @@ use Rattle.model.specs.Recording.{decodeAll}
 use Rattle.model.specs.Pattern.{isPattern}
 use Rattle.laws.proofs.Tests.{not-true, not-false}
 use Rattle.laws.proofs.Before.{before-start}
-use Rattle.deadlock.proofs.Verdicts.{judged-none, judged-events, judged-verdict, judged-reached}
+use Rattle.laws.proofs.Pattern.{lent-events}
+use Rattle.deadlock.proofs.Verdicts.{judged-none, judged-verdict, judged-reached}
 use Rattle.deadlock.proofs.decide.Statement.{statement}
 use Rattle.deadlock.proofs.decide.Tie as tie
 
@@ -47,7 +48,7 @@ reach-requires c κs =
       s .pre .0,
       s .pre .1,
       s .pre .3,
-      judged-events σ (s .args .pattern .now) (pattern-lent (c .before .before .before)),
+      lent-events σ (s .args .pattern .now) (pattern-lent (c .before .before .before)),
       before-start σ (s .args .front .now) _ (s .pre .4) refl,
       sym (s .pre .4),
     )
@@ -56,7 +57,7 @@ avoids-requires : tie.Need-avoids-requires
 avoids-requires c κs =
     let s = c .before .before .before .before .before .before .before .before .before .before .before
     .before .before .before .before .before .before .before in (
-      judged-events (decodeAll (s .args .records .now)) (s .args .pattern .now)
+      lent-events (decodeAll (s .args .records .now)) (s .args .pattern .now)
           (pattern-lent (c .before .before .before .before .before .before .before .before .before)),
       c .before .before .before .before .before .reach .ensures .settled .front-ok .long,
     )

@@ -5,7 +5,7 @@ use native.Mathlib.Omega.{arith}
 use lib.ListN.{getD, length-set}
 use lib.Seq.{getD-set-same, getD-set-other}
 use borrow.Author.Needs.{needs}
-use Rattle.laws.specs.Walk.{Spread}
+use Rattle.laws.specs.Returning.{Spread}
 use Rattle.pruning.proofs.Spreads.{spread-start, spread-next}
 use Rattle.pruning.proofs.fill_back.Statement.{statement}
 use Rattle.pruning.proofs.fill_back.Tie as tie

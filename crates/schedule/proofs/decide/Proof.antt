@@ -6,7 +6,8 @@ use Rattle.model.specs.Bytes.{numbers, isWhole}
 use Rattle.model.specs.Recording.{decodeAll}
 use Rattle.model.specs.Pattern.{isPattern}
 use Rattle.laws.proofs.Tests.{not-true, not-false}
-use Rattle.schedule.proofs.Answers.{answered-none, answered-events, answered-some}
+use Rattle.laws.proofs.Pattern.{lent-events}
+use Rattle.schedule.proofs.Answers.{answered-none, answered-some}
 use Rattle.schedule.proofs.decide.Statement.{statement}
 use Rattle.schedule.proofs.decide.Tie as tie
 
@@ -35,11 +36,7 @@ witnessed-requires c κs =
       s .pre .0,
       s .pre .1,
       s .pre .3,
-      answered-events (decodeAll
-          (c .before .before .before .before .before .before .before .before .before .args .records .now))
-          (c .before .before .before .before .before .before .before .before .before .args .pattern .now)
-          (c .before .before .before .before .before .before .before .before .before .args .schedule
-          .now) (pattern-lent c),
+      lent-events (decodeAll (s .args .records .now)) (s .args .pattern .now) (pattern-lent c),
     )
 
 returns-2 : tie.Need-returns-2
