@@ -13,6 +13,7 @@ ghost use Rattle.model.specs.Trace.{tasks, task, object, isEvent, isAcquire};
 ghost use Rattle.model.specs.Recording.{decodeAll};
 ghost use Rattle.model.specs.Pattern.{largestPattern};
 ghost use Rattle.model.specs.Calls.Check.{checkEvents};
+ghost use Rattle.laws.specs.Sizes.{recordsLength};
 ghost use Rattle.laws.specs.Frontier.{Settled, Before};
 ghost use Rattle.laws.specs.Returning.{Returning};
 ghost use Rattle.frontier.specs.Visit.{Needed};
@@ -55,7 +56,7 @@ pub fn grow(
     of: u8,
     e: usize,
 )
-    requires { ⌜ (length (now records) ≤ 8190) × (checkEvents (decodeAll (now records)) .refusal ≡ 0)
+    requires { ⌜ (length (now records) ≤ recordsLength) × (checkEvents (decodeAll (now records)) .refusal ≡ 0)
         × Needed (decodeAll (now records)) (now predecessors) (now writers) (now matches)
         × Settled (decodeAll (now records)) (now front) (now front) (now latest)
         × (task (decodeAll (now records)) e ≡ of
@@ -119,12 +120,12 @@ pub fn attempt(
     of: u8,
     e: usize,
 ) -> u64
-    requires { ⌜ (length (now records) ≤ 8190) × (checkEvents (decodeAll (now records)) .refusal ≡ 0)
+    requires { ⌜ (length (now records) ≤ recordsLength) × (checkEvents (decodeAll (now records)) .refusal ≡ 0)
         × Needed (decodeAll (now records)) (now predecessors) (now writers) (now matches)
         × Returning (decodeAll (now records)) (getD (now path) 0 0) (suc k) (now back)
         × (len ≤ length (now path)) × T (all (isEvent (decodeAll (now records))) (take len (now path)))
-        × (k < 16) × Reusable (decodeAll (now records)) (take len (now path)) of e (now front) (now latest)
-        (now grown) (now newest)
+        × (k < largestPattern) × Reusable (decodeAll (now records)) (take len (now path)) of e (now front)
+        (now latest) (now grown) (now newest)
         × (1 ≤ e) × (2 * e ≤ length (now records)) × T (isAcquire (decodeAll (now records)) e) ⌝ }
     ensures { λ r. ⌜ Attempted (decodeAll (now (records .entry))) k (take len (now (path .entry)))
         (getD (now (path .entry)) 0 0) e r (now (grown .exit)) (now (newest .exit))

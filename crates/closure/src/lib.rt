@@ -12,6 +12,7 @@ ghost use Rattle.model.specs.EventSet.{members, setLength, lentBit, lentSet, se
 ghost use Rattle.model.specs.Closure.{closure};
 ghost use Rattle.model.specs.Calls.Check.{checkEvents};
 ghost use Rattle.model.specs.Calls.Close.{close, closeOut};
+ghost use Rattle.laws.specs.Sizes.{recordsLength, tableLength};
 ghost use Rattle.laws.specs.Walked.{LatestEvents};
 ghost use Rattle.laws.specs.BitRow.{rowBit};
 ghost use Rattle.closure.specs.Reach.{Closes, refusedClosed};
@@ -43,7 +44,7 @@ fn spare_clear(set: &[u8], n: usize) -> bool
 
 // Wants event e as the latest one of its task, where it is in the set.
 fn want_one(records: &[u8], words: &[u64], want: &mut [u16], e: usize)
-    requires { ⌜ (1 ≤ e) × (2 * e ≤ length (now records)) × (e < 4096) × (length (now words) ≡ 64)
+    requires { ⌜ (1 ≤ e) × (2 * e ≤ length (now records)) × (e < tableLength) × (length (now words) ≡ 64)
         × (length (now want) ≡ tasks)
         × LatestEvents (λ f. rowBit 64 (now words) (f - 1)) (task (decodeAll (now records))) e (now want) ⌝ }
     ensures { λ r. ⌜ LatestEvents (λ f. rowBit 64 (now (words .entry)) (f - 1))
@@ -58,7 +59,8 @@ fn want_one(records: &[u8], words: &[u64], want: &mut [u16], e: usize)
 
 // Wants the latest event of each task that is in the set.
 fn wanted(records: &[u8], words: &[u64], want: &mut [u16])
-    requires { ⌜ (length (now records) ≤ 8190) × (length (now words) ≡ 64) × (now want ≡ replicate 16 0) ⌝ }
+    requires { ⌜ (length (now records) ≤ recordsLength) × (length (now words) ≡ 64)
+        × (now want ≡ replicate tasks 0) ⌝ }
     ensures { λ r. ⌜ LatestEvents (λ f. rowBit 64 (now (words .entry)) (f - 1))
         (task (decodeAll (now (records .entry)))) (length (decodeAll (now (records .entry))) + 1)
         (now (want .exit)) ⌝ }
@@ -72,8 +74,8 @@ fn wanted(records: &[u8], words: &[u64], want: &mut [u16])
 
 // Advances the frontier to that of the closure of the set in the words.
 fn reach(records: &[u8], words: &[u64], front: &mut [u16])
-    requires { ⌜ (length (now records) ≤ 8190) × (checkEvents (decodeAll (now records)) .refusal ≡ 0)
-        × (length (now words) ≡ 64) × (now front ≡ replicate 16 0) ⌝ }
+    requires { ⌜ (length (now records) ≤ recordsLength) × (checkEvents (decodeAll (now records)) .refusal ≡ 0)
+        × (length (now words) ≡ 64) × (now front ≡ replicate tasks 0) ⌝ }
     ensures { λ r. ⌜ Closes (decodeAll (now (records .entry))) (now (words .entry)) (now (front .exit)) ⌝ }
 {
     let mut operations = [0u8; 4096];
@@ -123,7 +125,7 @@ fn put_one(records: &[u8], front: &[u16], words: &mut [u64], e: usize)
 
 // Puts the events of the frontier's set into an empty one.
 fn put_behind(records: &[u8], front: &[u16], words: &mut [u64])
-    requires { ⌜ (length (now records) ≤ 8190) × (length (now front) ≡ tasks)
+    requires { ⌜ (length (now records) ≤ recordsLength) × (length (now front) ≡ tasks)
         × (now words ≡ replicate 64 0) ⌝ }
     ensures { λ r. ⌜ ((i : ℕ) → rowBit 64 (now (words .exit)) i
         ≡ (ltb i (length (decodeAll (now (records .entry))))
@@ -138,7 +140,7 @@ fn put_behind(records: &[u8], front: &[u16], words: &mut [u64])
 
 // Closes a lent set: how many events that adds.
 fn close_set(records: &[u8], set: &mut [u8]) -> u64
-    requires { ⌜ (length (now records) ≤ 8190) × (checkEvents (decodeAll (now records)) .refusal ≡ 0)
+    requires { ⌜ (length (now records) ≤ recordsLength) × (checkEvents (decodeAll (now records)) .refusal ≡ 0)
         × (length (now set) ≡ setLength (length (decodeAll (now records))))
         × T (all (λ e. not (lentBit (now set) e)) (from (suc (length (decodeAll (now records))))
         (8 * length (now set) - length (decodeAll (now records))))) ⌝ }

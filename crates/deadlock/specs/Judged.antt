@@ -12,11 +12,12 @@ use Rattle.model.specs.Trace.{Trace, tasks, task, isEvent}
 use Rattle.model.specs.Relations.{held}
 use Rattle.model.specs.EventSet.{has}
 use Rattle.model.specs.Pattern.{isPattern, closureBefore, isDeadlock}
+use Rattle.laws.specs.Sizes.{tableLength}
 use Rattle.laws.specs.Chain.{Chain, signature, fits}
 
 -- The table of held locks, with an entry for each event of the longest recording.
 pub record Holding (σ : Trace) (holding : List ℕ) : Type 0 where
-  pub long : length holding ≡ 4096
+  pub long : length holding ≡ tableLength
   pub at : (e : ℕ) → 1 ≤ e → e ≤ length σ → getD holding e 0 ≡ held σ e
 
 -- Event e may come next in a chain that may become a pattern: an event later than the first one, which fits.

@@ -10,12 +10,13 @@ ghost use lib.ListN.{length, getD, drop, replicate};
 ghost use lib.Seq.{sets};
 ghost use Rattle.model.specs.Lists.{all, hasBit};
 ghost use Rattle.model.specs.Bytes.{encode, numbers, isWhole};
-ghost use Rattle.model.specs.Trace.{tasks, task, object, isEvent, isAcquire};
+ghost use Rattle.model.specs.Trace.{tasks, locks, task, object, isEvent, isAcquire};
 ghost use Rattle.model.specs.Recording.{decodeAll};
 ghost use Rattle.model.specs.Pattern.{isPattern};
 ghost use Rattle.model.specs.Calls.Check.{checkEvents};
 ghost use Rattle.model.specs.Calls.Verdict.{verdict};
 ghost use Rattle.model.specs.Calls.Witness.{witness, witnessOut};
+ghost use Rattle.laws.specs.Sizes.{recordsLength, tableLength};
 ghost use Rattle.laws.specs.Answered.{refusedWitness};
 ghost use Rattle.laws.specs.Chain.{signature, start, fits, completing, chainOf};
 ghost use Rattle.laws.specs.Frontier.{Before};
@@ -25,7 +26,7 @@ ghost use Rattle.deadlock.specs.Delivered.{delivered, deliveredOut, witn
 
 // Lock l is in the mask.
 pub fn in_mask(mask: u64, l: u64) -> bool
-    requires { ⌜ l < 64 ⌝ }
+    requires { ⌜ l < locks ⌝ }
     ensures { λ r. ⌜ r ≡ hasBit mask l ⌝ }
 {
     (mask >> l) & 1 == 1
@@ -73,7 +74,7 @@ pub fn follows(
     e: usize,
 ) -> bool
     requires { ⌜ (1 ≤ last) × (2 * last ≤ length (now records)) × (1 ≤ e) × (2 * e ≤ length (now records))
-        × (length (now records) ≤ 8190) × (checkEvents (decodeAll (now records)) .refusal ≡ 0)
+        × (length (now records) ≤ recordsLength) × (checkEvents (decodeAll (now records)) .refusal ≡ 0)
         × Holding (decodeAll (now records)) (now holding) × T (isAcquire (decodeAll (now records)) last) ⌝ }
     ensures { λ r. ⌜ r ≡ fits (signature (decodeAll (now (records .entry))))
         (chainOf 0 last tasks guards) e ⌝ }
@@ -102,7 +103,7 @@ fn joins(
     guards: u64,
     e: usize,
 ) -> bool
-    requires { ⌜ (1 ≤ last) × (2 * last ≤ length (now records)) × (length (now records) ≤ 8190)
+    requires { ⌜ (1 ≤ last) × (2 * last ≤ length (now records)) × (length (now records) ≤ recordsLength)
         × (checkEvents (decodeAll (now records)) .refusal ≡ 0)
         × Holding (decodeAll (now records)) (now holding) × T (isAcquire (decodeAll (now records)) last) ⌝ }
     ensures { λ r. ⌜ r ≡ joins (decodeAll (now (records .entry))) (chainOf a last tasks guards) e ⌝ }
@@ -119,7 +120,7 @@ fn joins(
 // The numbers after the first complete the chain of the acquire a: each joins the chain before it, and the
 // last one's lock is held at the first.
 fn completes(records: &[u8], holding: &[u64], pattern: &[u8], a: usize) -> bool
-    requires { ⌜ (1 ≤ a) × (2 * a ≤ length (now records)) × (length (now records) ≤ 8190)
+    requires { ⌜ (1 ≤ a) × (2 * a ≤ length (now records)) × (length (now records) ≤ recordsLength)
         × (checkEvents (decodeAll (now records)) .refusal ≡ 0)
         × Holding (decodeAll (now records)) (now holding) × T (isAcquire (decodeAll (now records)) a)
         × (2 ≤ length (now pattern)) ⌝ }
@@ -146,7 +147,7 @@ fn completes(records: &[u8], holding: &[u64], pattern: &[u8], a: usize) -> bool
 
 // Question 10: the lent bytes are a deadlock pattern of the records, smallest event first.
 pub fn lends_pattern(records: &[u8], holding: &[u64], pattern: &[u8]) -> bool
-    requires { ⌜ (length (now records) ≤ 8190) × (checkEvents (decodeAll (now records)) .refusal ≡ 0)
+    requires { ⌜ (length (now records) ≤ recordsLength) × (checkEvents (decodeAll (now records)) .refusal ≡ 0)
         × Holding (decodeAll (now records)) (now holding) ⌝ }
     ensures { λ r. ⌜ r ≡ (isWhole (now (pattern .entry))
         && isPattern (decodeAll (now (records .entry))) (numbers (now (pattern .entry)))) ⌝ }
@@ -178,7 +179,7 @@ fn reach(
     want: &mut [u16],
     latest: &mut [u16],
 )
-    requires { ⌜ (length (now records) ≤ 8190) × (checkEvents (decodeAll (now records)) .refusal ≡ 0)
+    requires { ⌜ (length (now records) ≤ recordsLength) × (checkEvents (decodeAll (now records)) .refusal ≡ 0)
         × Needed (decodeAll (now records)) (now predecessors) (now writers) (now matches)
         × T (all (isEvent (decodeAll (now records))) (numbers (now pattern)))
         × Before (decodeAll (now records)) [] (now front) (now latest) × (now want ≡ now front) ⌝ }
@@ -231,10 +232,10 @@ pub fn decide(
     pattern: &[u8],
     front: &mut [u16],
 ) -> u64
-    requires { ⌜ (length (now records) ≤ 8190) × (checkEvents (decodeAll (now records)) .refusal ≡ 0)
+    requires { ⌜ (length (now records) ≤ recordsLength) × (checkEvents (decodeAll (now records)) .refusal ≡ 0)
         × Holding (decodeAll (now records)) (now holding)
         × Needed (decodeAll (now records)) (now predecessors) (now writers) (now matches)
-        × (now front ≡ replicate 16 0) ⌝ }
+        × (now front ≡ replicate tasks 0) ⌝ }
     ensures { λ r. ⌜ (r ≡ judged (decodeAll (now (records .entry))) (now (pattern .entry)))
         × (r ≡ 2 → Reached (decodeAll (now (records .entry))) (numbers (now (pattern .entry)))
         (now (front .exit))) ⌝ }
@@ -262,8 +263,8 @@ pub fn decide(
 
 // Decides the lent bytes with tables of its own.
 fn judge(records: &[u8], pattern: &[u8], front: &mut [u16]) -> u64
-    requires { ⌜ (length (now records) ≤ 8190) × (checkEvents (decodeAll (now records)) .refusal ≡ 0)
-        × (now front ≡ replicate 16 0) ⌝ }
+    requires { ⌜ (length (now records) ≤ recordsLength) × (checkEvents (decodeAll (now records)) .refusal ≡ 0)
+        × (now front ≡ replicate tasks 0) ⌝ }
     ensures { λ r. ⌜ (r ≡ judged (decodeAll (now (records .entry))) (now (pattern .entry)))
         × (r ≡ 2 → Reached (decodeAll (now (records .entry))) (numbers (now (pattern .entry)))
         (now (front .exit))) ⌝ }
@@ -327,8 +328,8 @@ pub fn verdict(recording: &[u8], pattern: &[u8]) -> model::Verdict
 
 // How many events are in the set of the frontier.
 fn count_behind(records: &[u8], front: &[u16]) -> u64
-    requires { ⌜ (length (now records) ≤ 8190) × (length (now front) ≡ tasks) ⌝ }
-    ensures { λ r. ⌜ (r ≤ 4095)
+    requires { ⌜ (length (now records) ≤ recordsLength) × (length (now front) ≡ tasks) ⌝ }
+    ensures { λ r. ⌜ (r < tableLength)
         × (r ≡ length (behind (decodeAll (now (records .entry))) (now (front .entry)))) ⌝ }
 {
     let mut count = 0;
@@ -344,7 +345,7 @@ fn count_behind(records: &[u8], front: &[u16]) -> u64
 
 // Writes event e at a position of the output, where it is in the set of the frontier: the position after it.
 fn write_one(records: &[u8], front: &[u16], out: &mut [u8], at: usize, e: usize) -> usize
-    requires { ⌜ (1 ≤ e) × (2 * e ≤ length (now records)) × (e < 4096) × (length (now front) ≡ tasks)
+    requires { ⌜ (1 ≤ e) × (2 * e ≤ length (now records)) × (e < tableLength) × (length (now front) ≡ tasks)
         × (at + length (encode (behindAt (decodeAll (now records)) (now front) e)) ≤ length (now out)) ⌝ }
     ensures { λ r. ⌜ (r ≡ at
         + length (encode (behindAt (decodeAll (now (records .entry))) (now (front .entry)) e)))
@@ -360,7 +361,7 @@ fn write_one(records: &[u8], front: &[u16], out: &mut [u8], at: usize, e: usize)
 
 // Writes the events in the set of the frontier at the output's front, in recording order and two bytes each.
 fn write_behind(records: &[u8], front: &[u16], out: &mut [u8])
-    requires { ⌜ (length (now records) ≤ 8190) × (length (now front) ≡ tasks)
+    requires { ⌜ (length (now records) ≤ recordsLength) × (length (now front) ≡ tasks)
         × (2 * length (behind (decodeAll (now records)) (now front)) ≤ length (now out)) ⌝ }
     ensures { λ r. ⌜ now (out .exit) ≡ sets (now (out .entry)) 0
         (encode (behind (decodeAll (now (records .entry))) (now (front .entry)))) ⌝ }
@@ -388,7 +389,7 @@ fn unwritten(refusal: u64, event: u64) -> model::Witness
 // Delivers the schedule of a deadlock, the events in the set of the frontier: question 13, and where they fit
 // the output they are written at its front.
 fn deliver(records: &[u8], front: &[u16], out: &mut [u8]) -> model::Witness
-    requires { ⌜ (length (now records) ≤ 8190) × (length (now front) ≡ tasks) ⌝ }
+    requires { ⌜ (length (now records) ≤ recordsLength) × (length (now front) ≡ tasks) ⌝ }
     ensures answer { λ r. ⌜ r ≡ delivered
         (encode (behind (decodeAll (now (records .entry))) (now (front .entry))))
         (length (now (out .entry))) ⌝ }
@@ -411,7 +412,8 @@ fn deliver(records: &[u8], front: &[u16], out: &mut [u8]) -> model::Witness
 // The witness call from question 10 on: what is decided of the lent bytes, and where that is deadlock the
 // schedule of the frontier.
 fn witness_records(records: &[u8], pattern: &[u8], out: &mut [u8]) -> model::Witness
-    requires { ⌜ (length (now records) ≤ 8190) × (checkEvents (decodeAll (now records)) .refusal ≡ 0) ⌝ }
+    requires { ⌜ (length (now records) ≤ recordsLength)
+        × (checkEvents (decodeAll (now records)) .refusal ≡ 0) ⌝ }
     ensures answer { λ r. ⌜ r ≡ witnessFrom (decodeAll (now (records .entry))) (now (pattern .entry))
         (length (now (out .entry))) ⌝ }
     ensures output { λ r. ⌜ now (out .exit) ≡ witnessOutFrom (decodeAll (now (records .entry)))

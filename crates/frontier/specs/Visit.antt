@@ -8,18 +8,19 @@ use lib.Dec.{eqb}
 use lib.ListN.{length, getD}
 use Rattle.model.specs.Trace.{Trace, task, object, isRead, isAcquire}
 use Rattle.model.specs.Relations.{predecessor, writer, matching}
+use Rattle.laws.specs.Sizes.{tableLength}
 use Rattle.laws.specs.Frontier.{raised}
 
 -- The tables that a visit needs, with an entry for each event of the longest recording.
 pub record Reading (σ : Trace) (writers matches : List ℕ) : Type 0 where
-  pub writer-long : length writers ≡ 4096
-  pub matching-long : length matches ≡ 4096
+  pub writer-long : length writers ≡ tableLength
+  pub matching-long : length matches ≡ tableLength
   pub writer-at : (e : ℕ) → 1 ≤ e → e ≤ length σ → getD writers e 0 ≡ writer σ e
   pub matching-at : (e : ℕ) → 1 ≤ e → e ≤ length σ → getD matches e 0 ≡ matching σ e
 
 -- The tables that a closure needs.
 pub record Needed (σ : Trace) (predecessors writers matches : List ℕ) : Type 0 where
-  pub predecessor-long : length predecessors ≡ 4096
+  pub predecessor-long : length predecessors ≡ tableLength
   pub predecessor-at : (e : ℕ) → 1 ≤ e → e ≤ length σ → getD predecessors e 0 ≡ predecessor σ e
   pub reading : Reading σ writers matches
 

@@ -8,6 +8,7 @@ ghost use Rattle.model.specs.Trace.{tasks, locks, task, object};
 ghost use Rattle.model.specs.Relations.{predecessor, writer, matching};
 ghost use Rattle.model.specs.Recording.{decodeAll};
 ghost use Rattle.model.specs.Calls.Check.{checkEvents};
+ghost use Rattle.laws.specs.Sizes.{recordsLength};
 ghost use Rattle.laws.specs.Frontier.{Settled, raised, Advanced, Turned};
 ghost use Rattle.frontier.specs.Visit.{Reading, Needed, latestWith, wantedWith};
 ghost use Rattle.frontier.specs.Visit.{wantedWriter, wantedEarlier};
@@ -88,7 +89,7 @@ fn visit(
     latest: &mut [u16],
     f: u16,
 )
-    requires { ⌜ (1 ≤ f) × (2 * f ≤ length (now records)) × (length (now records) ≤ 8190)
+    requires { ⌜ (1 ≤ f) × (2 * f ≤ length (now records)) × (length (now records) ≤ recordsLength)
         × (checkEvents (decodeAll (now records)) .refusal ≡ 0) × (length (now want) ≡ tasks)
         × (length (now latest) ≡ locks) × Reading (decodeAll (now records)) (now writers) (now matches) ⌝ }
     ensures wanted { λ r. ⌜ now (want .exit)
@@ -117,7 +118,7 @@ fn turn(
     latest: &mut [u16],
     t: usize,
 )
-    requires { ⌜ (length (now records) ≤ 8190) × (checkEvents (decodeAll (now records)) .refusal ≡ 0)
+    requires { ⌜ (length (now records) ≤ recordsLength) × (checkEvents (decodeAll (now records)) .refusal ≡ 0)
         × Needed (decodeAll (now records)) (now predecessors) (now writers) (now matches)
         × Settled (decodeAll (now records)) (now front) (now want) (now latest)
         × (t < tasks) × (getD (now front) t 0 < getD (now want) t 0) ⌝ }
@@ -144,7 +145,7 @@ pub fn advance(
     want: &mut [u16],
     latest: &mut [u16],
 )
-    requires { ⌜ (length (now records) ≤ 8190) × (checkEvents (decodeAll (now records)) .refusal ≡ 0)
+    requires { ⌜ (length (now records) ≤ recordsLength) × (checkEvents (decodeAll (now records)) .refusal ≡ 0)
         × Needed (decodeAll (now records)) (now predecessors) (now writers) (now matches)
         × Settled (decodeAll (now records)) (now front) (now want) (now latest) ⌝ }
     ensures { λ r. ⌜ Advanced (decodeAll (now (records .entry))) (now (want .entry)) (now (front .exit))
@@ -181,7 +182,7 @@ pub fn extend(
     latest: &mut [u16],
     e: usize,
 )
-    requires { ⌜ (length (now records) ≤ 8190) × (checkEvents (decodeAll (now records)) .refusal ≡ 0)
+    requires { ⌜ (length (now records) ≤ recordsLength) × (checkEvents (decodeAll (now records)) .refusal ≡ 0)
         × Needed (decodeAll (now records)) (now predecessors) (now writers) (now matches)
         × Settled (decodeAll (now records)) (now front) (now front) (now latest)
         × (now want ≡ now front) × (1 ≤ e) × (2 * e ≤ length (now records)) ⌝ }

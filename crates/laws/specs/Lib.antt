@@ -1,5 +1,5 @@
 -- Definitions for the contracts of inner functions: what the tables of a walk hold, the shapes of answers,
--- frontiers, rows of bits, chains and their search. No call's contract names one.
+-- frontiers, rows of bits, chains and their search, and sizes. No call's contract names one.
 pub mod Walked
 pub mod Answered
 pub mod Frontier
@@ -7,3 +7,4 @@ pub mod BitRow
 pub mod Chain
 pub mod Walk
 pub mod Returning
+pub mod Sizes

@@ -11,6 +11,7 @@ use Rattle.model.specs.Trace.{Trace, isEvent, isAcquire}
 use Rattle.model.specs.Recording.{decodeAll}
 use Rattle.model.specs.Pattern.{largestPattern, isDeadlock}
 use Rattle.model.specs.Calls.Check.{checkEvents}
+use Rattle.laws.specs.Sizes.{recordsLength}
 use Rattle.laws.specs.Chain.{Chain, signature, fits}
 use Rattle.laws.specs.Frontier.{Before}
 use Rattle.laws.specs.Walk.{branch}
@@ -21,7 +22,7 @@ use Rattle.pruning.specs.Linked.{Linked, Marked}
 
 -- Records of accepted events, and the tables of them.
 pub record Ready (b holding predecessors writers matches next blocks : List ℕ) : Type 0 where
-  pub short : length b ≤ 8190
+  pub short : length b ≤ recordsLength
   pub accepted : checkEvents (decodeAll b) .refusal ≡ 0
   pub holds : Holding (decodeAll b) holding
   pub needed : Needed (decodeAll b) predecessors writers matches

@@ -12,6 +12,7 @@ ghost use Rattle.model.specs.Listing.{deadlocks};
 ghost use Rattle.model.specs.Calls.Questions.{isAccepted, permitsSize};
 ghost use Rattle.model.specs.Calls.Check.{checkEvents};
 ghost use Rattle.model.specs.Calls.List.{largestSize, list, listOut};
+ghost use Rattle.laws.specs.Sizes.{recordsLength};
 ghost use Rattle.laws.specs.Answered.{refusedListing};
 ghost use Rattle.listing.specs.Open.{Ready};
 ghost use Rattle.listing.specs.Delivered.{Delivered};
@@ -73,7 +74,7 @@ fn deliver(
 
 // Lists into the output with tables of its own.
 fn list_records(records: &[u8], largest: usize, out: &mut [u8]) -> Found
-    requires { ⌜ (length (now records) ≤ 8190) × (checkEvents (decodeAll (now records)) .refusal ≡ 0)
+    requires { ⌜ (length (now records) ≤ recordsLength) × (checkEvents (decodeAll (now records)) .refusal ≡ 0)
         × (2 ≤ largest) × (largest ≤ largestPattern) ⌝ }
     ensures { λ r. ⌜ Delivered (deadlocks (decodeAll (now (records .entry))) largest) (now (out .entry))
         (now (out .exit)) r ⌝ }

@@ -5,7 +5,7 @@ ghost use mathlib.Core.Path.{_≡_};
 ghost use mathlib.Core.Bool.{false};
 ghost use lib.Dec.{T};
 ghost use lib.ListN.{length, getD, take};
-ghost use Rattle.model.specs.Trace.{isAcquire};
+ghost use Rattle.model.specs.Trace.{tasks, isAcquire};
 ghost use Rattle.model.specs.Recording.{decodeAll};
 ghost use Rattle.model.specs.Pattern.{largestPattern};
 ghost use Rattle.model.specs.Listing.{deadlocks};
@@ -265,7 +265,7 @@ fn search_first(
 ) -> Found
     requires { ⌜ Ready (now records) (now holding) (now predecessors) (now writers) (now matches)
         (now next) (now blocks)
-        × Leading (decodeAll (now records)) 0 16 0 (now lead)
+        × Leading (decodeAll (now records)) 0 tasks 0 (now lead)
         × (1 ≤ a) × (2 * a ≤ length (now records)) × T (isAcquire (decodeAll (now records)) a)
         × (2 ≤ largest) × (largest ≤ largestPattern) × (length (now path) ≡ largestPattern)
         × Roomy room found × (found .full ≡ false) ⌝ }

@@ -6,6 +6,7 @@ ghost use Rattle.model.specs.Lists.{filter, from};
 ghost use Rattle.model.specs.Recording.{decodeAll};
 ghost use Rattle.model.specs.Calls.Check.{checkEvents};
 ghost use Rattle.model.specs.Calls.Load.{isHeldAfter, percent, load};
+ghost use Rattle.laws.specs.Sizes.{recordsLength, tableLength};
 ghost use Rattle.laws.specs.Walked.{Holder};
 
 // The holder of the lock after event e (its task plus 1, or 0), given that before it.
@@ -30,8 +31,10 @@ fn holder_after(records: &[u8], e: usize, lock: u64, holder: u8) -> u8
 
 // How many events there are after which some task holds the lock.
 fn count_held(records: &[u8], lock: u64) -> u64
-    requires { ⌜ (length (now records) ≤ 8190) × (checkEvents (decodeAll (now records)) .refusal ≡ 0) ⌝ }
-    ensures { λ r. ⌜ (r ≤ 4095) × (r ≡ length (filter (isHeldAfter (decodeAll (now (records .entry))) lock)
+    requires { ⌜ (length (now records) ≤ recordsLength)
+        × (checkEvents (decodeAll (now records)) .refusal ≡ 0) ⌝ }
+    ensures { λ r. ⌜ (r < tableLength)
+        × (r ≡ length (filter (isHeldAfter (decodeAll (now (records .entry))) lock)
         (from 1 (length (decodeAll (now (records .entry))))))) ⌝ }
 {
     let mut holder = 0u8;
@@ -49,7 +52,7 @@ fn count_held(records: &[u8], lock: u64) -> u64
 
 // 100 × h / n, rounded to nearest, halves up; 0 for no events.
 fn percentage(h: u64, n: u64) -> u64
-    requires { ⌜ (h ≤ 4095) × (n ≤ 4095) ⌝ }
+    requires { ⌜ (h < tableLength) × (n < tableLength) ⌝ }
     ensures { λ r. ⌜ r ≡ percent h n ⌝ }
 {
     if n == 0 {

@@ -12,6 +12,7 @@ use lib.Seq.{getD-set-same, getD-set-other}
 use borrow.Author.Tests.{ne-eqb, eqb-true}
 use Rattle.model.specs.Trace.{Trace, at, object, isAcquire}
 use Rattle.model.specs.Relations.{held}
+use Rattle.laws.specs.Sizes.{tableLength}
 use Rattle.laws.specs.Chain.{Chain, signature, fits}
 use Rattle.laws.proofs.Bits.{hasBit-none}
 use Rattle.laws.proofs.Tests.{and-l, and-i, is-false, decided, cond-elim, equal?}
@@ -51,12 +52,12 @@ acquire-free σ e t n = eqb-true (held σ e) 0 (decided (eqb (held σ e) 0) (λ 
 
 -- The links of the events after e are in the table, and `top` is the link of e.
 pub record LinkedAfter (σ : Trace) (e top : ℕ) (next : List ℕ) : Type 0 where
-  pub long : length next ≡ 4096
+  pub long : length next ≡ tableLength
   pub first : Link σ e top
   pub link : (f : ℕ) → e < f → f ≤ length σ → Link σ f (getD next f 0)
 
 -- The last event's link is 0.
-pub linked-last : (σ : Trace) (next : List ℕ) → length next ≡ 4096 → (n : ℕ) → length σ ≡ n
+pub linked-last : (σ : Trace) (next : List ℕ) → length next ≡ tableLength → (n : ℕ) → length σ ≡ n
     → LinkedAfter σ n 0 next
 linked-last σ next long n q = record { long = long; first = none; link = λ f h k. absurd (omega arith) }
   where
@@ -94,7 +95,7 @@ module _ (σ : Trace) (e : ℕ) (h : 0 < e) (k : e ≤ length σ) where
   link-before top z =
       cond-elim (Link σ (e - 1)) (isNested σ e) e top link-nested (λ n. link-passed top n z)
 
-module _ (σ : Trace) (e top : ℕ) (next : List ℕ) (z : LinkedAfter σ e top next) (k : e < 4096) where
+module _ (σ : Trace) (e top : ℕ) (next : List ℕ) (z : LinkedAfter σ e top next) (k : e < tableLength) where
   -- The link of e stored at its place, and the links behind it kept.
   stored : (f : ℕ) → e ≤ f → f ≤ length σ → Link σ f (getD (set next e top) f 0)
   stored f h j = ⊎-elim here there (equal? f e)

@@ -11,6 +11,7 @@ use lib.ListN.{length, getD}
 use Rattle.model.specs.Lists.{hasBit}
 use Rattle.model.specs.Trace.{Trace, locks, task, object, isAcquire}
 use Rattle.model.specs.Relations.{held}
+use Rattle.laws.specs.Sizes.{tableLength}
 use Rattle.laws.specs.Walk.{First}
 use Rattle.laws.specs.Returning.{Covers}
 
@@ -24,7 +25,7 @@ Link σ e x = First (isNested σ) (length σ) e x
 
 -- The table has the link of each event, and of number 0.
 pub record Linked (σ : Trace) (next : List ℕ) : Type 0 where
-  pub long : length next ≡ 4096
+  pub long : length next ≡ tableLength
   pub link : (e : ℕ) → e ≤ length σ → Link σ e (getD next e 0)
 
 -- For each 64 events in turn, the locks held at their acquires. The table may have more.

@@ -11,6 +11,7 @@ ghost use Rattle.model.specs.Relations.{held};
 ghost use Rattle.model.specs.Recording.{decodeAll};
 ghost use Rattle.model.specs.Pattern.{largestPattern};
 ghost use Rattle.model.specs.Calls.Check.{checkEvents};
+ghost use Rattle.laws.specs.Sizes.{recordsLength, tableLength};
 ghost use Rattle.laws.specs.Chain.{signature, fits, chainOf};
 ghost use Rattle.laws.specs.Walk.{First};
 ghost use Rattle.laws.specs.Returning.{Covers, Leading, Spread, Returning};
@@ -19,7 +20,7 @@ ghost use Rattle.pruning.specs.Linked.{isNested, Linked, Marked, isNear,
 
 // Event e where it is a nested acquire, and otherwise `later`.
 fn nested_or(records: &[u8], holding: &[u64], e: usize, later: u16) -> u16
-    requires { ⌜ (1 ≤ e) × (2 * e ≤ length (now records)) × (length (now records) ≤ 8190)
+    requires { ⌜ (1 ≤ e) × (2 * e ≤ length (now records)) × (length (now records) ≤ recordsLength)
         × Holding (decodeAll (now records)) (now holding) ⌝ }
     ensures { λ r. ⌜ r ≡ cond (isNested (decodeAll (now (records .entry))) e) e later ⌝ }
 {
@@ -34,8 +35,8 @@ fn nested_or(records: &[u8], holding: &[u64], e: usize, later: u16) -> u16
 
 // Links each event, and number 0, to the first nested acquire after it, from the last event down.
 pub fn link_nested(records: &[u8], holding: &[u64], next: &mut [u16])
-    requires { ⌜ (length (now records) ≤ 8190) × Holding (decodeAll (now records)) (now holding)
-        × (length (now next) ≡ 4096) ⌝ }
+    requires { ⌜ (length (now records) ≤ recordsLength) × Holding (decodeAll (now records)) (now holding)
+        × (length (now next) ≡ tableLength) ⌝ }
     ensures { λ r. ⌜ Linked (decodeAll (now (records .entry))) (now (next .exit)) ⌝ }
 {
     let mut top = 0;
@@ -50,7 +51,7 @@ pub fn link_nested(records: &[u8], holding: &[u64], next: &mut [u16])
 
 // Marks for each 64 events in turn the locks that are held at their acquires.
 pub fn mark_blocks(records: &[u8], holding: &[u64], next: &[u16], blocks: &mut [u64])
-    requires { ⌜ (length (now records) ≤ 8190) × Holding (decodeAll (now records)) (now holding)
+    requires { ⌜ (length (now records) ≤ recordsLength) × Holding (decodeAll (now records)) (now holding)
         × Linked (decodeAll (now records)) (now next) × (length (now blocks) ≡ 64) ⌝ }
     ensures { λ r. ⌜ Marked (decodeAll (now (records .entry))) (now (blocks .exit)) ⌝ }
 {
@@ -65,7 +66,7 @@ pub fn mark_blocks(records: &[u8], holding: &[u64], next: &[u16], blocks: &mut [
 // The first nested acquire after e in a block where some acquire holds lock l, or 0: other blocks are passed
 // over.
 fn hop(records: &[u8], next: &[u16], blocks: &[u64], l: u64, e: usize) -> usize
-    requires { ⌜ (l < 64) × (2 * e ≤ length (now records)) × (length (now records) ≤ 8190)
+    requires { ⌜ (l < locks) × (2 * e ≤ length (now records)) × (length (now records) ≤ recordsLength)
         × Linked (decodeAll (now records)) (now next) × (length (now blocks) ≡ 64) ⌝ }
     ensures { λ r. ⌜ First (isNear (decodeAll (now (records .entry))) (now (blocks .entry)) l)
         (length (decodeAll (now (records .entry)))) e r ⌝ }
@@ -97,7 +98,7 @@ pub fn following(
     e: usize,
 ) -> usize
     requires { ⌜ (1 ≤ last) × (2 * last ≤ length (now records)) × (2 * e ≤ length (now records))
-        × (length (now records) ≤ 8190) × (checkEvents (decodeAll (now records)) .refusal ≡ 0)
+        × (length (now records) ≤ recordsLength) × (checkEvents (decodeAll (now records)) .refusal ≡ 0)
         × Holding (decodeAll (now records)) (now holding) × Linked (decodeAll (now records)) (now next)
         × Marked (decodeAll (now records)) (now blocks) × T (isAcquire (decodeAll (now records)) last) ⌝ }
     ensures { λ r. ⌜ First (fits (signature (decodeAll (now (records .entry)))) (chainOf 0 last tasks guards))
@@ -124,7 +125,7 @@ fn note_lead(
     lead: &mut [u64],
     e: usize,
 )
-    requires { ⌜ (1 ≤ e) × (2 * e ≤ length (now records)) × (length (now records) ≤ 8190)
+    requires { ⌜ (1 ≤ e) × (2 * e ≤ length (now records)) × (length (now records) ≤ recordsLength)
         × (checkEvents (decodeAll (now records)) .refusal ≡ 0)
         × Holding (decodeAll (now records)) (now holding) × T (isAcquire (decodeAll (now records)) e)
         × Led (decodeAll (now records)) a e t guards (now lead) ⌝ }
@@ -152,7 +153,7 @@ pub fn note_leads(
     guards: u64,
     lead: &mut [u64],
 )
-    requires { ⌜ (2 * a ≤ length (now records)) × (length (now records) ≤ 8190)
+    requires { ⌜ (2 * a ≤ length (now records)) × (length (now records) ≤ recordsLength)
         × (checkEvents (decodeAll (now records)) .refusal ≡ 0)
         × Holding (decodeAll (now records)) (now holding) × Linked (decodeAll (now records)) (now next)
         × (length (now lead) ≡ locks) ⌝ }
@@ -217,7 +218,7 @@ pub fn leads_back(
     back: &mut [u64],
     count: usize,
 ) -> bool
-    requires { ⌜ (1 ≤ a) × (2 * a ≤ length (now records)) × (length (now records) ≤ 8190)
+    requires { ⌜ (1 ≤ a) × (2 * a ≤ length (now records)) × (length (now records) ≤ recordsLength)
         × (checkEvents (decodeAll (now records)) .refusal ≡ 0)
         × Holding (decodeAll (now records)) (now holding) × T (isAcquire (decodeAll (now records)) a)
         × Leading (decodeAll (now records)) a (task (decodeAll (now records)) a)

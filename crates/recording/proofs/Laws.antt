@@ -9,7 +9,7 @@ use native.Mathlib.Omega.{arith}
 use lib.Dec.{T, eqb}
 use lib.ListN.{length, getD, set, replicate, length-set, length-replicate}
 use borrow.Author.Tests.{eq-eqb, ne-eqb}
-use Rattle.model.specs.Trace.{Trace, tasks, locks, at, task, object, isWrite}
+use Rattle.model.specs.Trace.{Trace, tasks, locks, variables, at, task, object, isWrite}
 use Rattle.model.specs.Relations.{holds, writer}
 use Rattle.model.specs.Recording.{decodeAll}
 use Rattle.model.specs.WellFormed.{isFree, fault}
@@ -23,7 +23,7 @@ use Rattle.laws.proofs.Holders.{holder-acquire, holder-release, holder-free, ho
 use Rattle.laws.proofs.Holders.{holders-access}
 use Rattle.laws.proofs.Faults.{isRead-op, isWrite-op, isAcquire-op, isRelease-op, fault-lock, fault-acquire}
 use Rattle.laws.proofs.Faults.{fault-release, fault-write, fault-read, checkEvents-fault, checkEvents-none}
-use Rattle.recording.specs.Asked.{Asked, variables}
+use Rattle.recording.specs.Asked.{Asked}
 
 -- ---- one event
 

@@ -4,13 +4,9 @@ use Prim.Native.Nat.{ℕ, _≤_, _<_}
 use mathlib.Core.Path.{_≡_}
 use mathlib.Core.List.{List}
 use lib.ListN.{length}
-use Rattle.model.specs.Trace.{Trace, object, isWrite}
+use Rattle.model.specs.Trace.{Trace, variables, object, isWrite}
 use Rattle.model.specs.WellFormed.{fault}
 use Rattle.laws.specs.Walked.{Holders, LatestEvents}
-
--- How many variables there are: an object has 10 bits.
-abbrev pub variables : ℕ
-variables = 1024
 
 -- The check has come to event e.
 pub record Asked (σ : Trace) (e : ℕ) (holders writes : List ℕ) : Type 0 where

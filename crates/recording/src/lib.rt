@@ -5,10 +5,11 @@ ghost use mathlib.Core.Path.{_≡_};
 ghost use lib.ListN.{length, getD};
 ghost use lib.Seq.{sets};
 ghost use Rattle.model.specs.Bytes.{numbers, twoBytes};
-ghost use Rattle.model.specs.Trace.{at, task, object};
+ghost use Rattle.model.specs.Trace.{tasks, variables, at, task, object};
 ghost use Rattle.model.specs.Recording.{decodeAll, eventCount};
 ghost use Rattle.model.specs.WellFormed.{fault};
 ghost use Rattle.model.specs.Calls.Check.{checkEvents, check};
+ghost use Rattle.laws.specs.Sizes.{recordsLength, tableLength};
 ghost use Rattle.recording.specs.Asked.{Asked};
 use model::Outcome;
 
@@ -40,7 +41,7 @@ pub fn operation(records: &[u8], e: usize) -> u8
 // The task of event e: the next 4 bits.
 pub fn task(records: &[u8], e: usize) -> u8
     requires { ⌜ (1 ≤ e) × (2 * e ≤ length (now records)) ⌝ }
-    ensures { λ r. ⌜ (r < 16) × (r ≡ task (decodeAll (now (records .entry))) e) ⌝ }
+    ensures { λ r. ⌜ (r < tasks) × (r ≡ task (decodeAll (now (records .entry))) e) ⌝ }
 {
     (records[2 * (e - 1)] >> 2) & 15
 }
@@ -48,7 +49,7 @@ pub fn task(records: &[u8], e: usize) -> u8
 // The lock or variable of event e: the low 10 bits.
 pub fn object(records: &[u8], e: usize) -> u16
     requires { ⌜ (1 ≤ e) × (2 * e ≤ length (now records)) ⌝ }
-    ensures { λ r. ⌜ (r < 1024) × (r ≡ object (decodeAll (now (records .entry))) e) ⌝ }
+    ensures { λ r. ⌜ (r < variables) × (r ≡ object (decodeAll (now (records .entry))) e) ⌝ }
 {
     let at = 2 * (e - 1);
     (((records[at] & 3) as u16) << 8) | (records[at + 1] as u16)
@@ -57,7 +58,7 @@ pub fn object(records: &[u8], e: usize) -> u16
 // Puts questions 4 to 7 to event e, with the holder of each lock (its task plus 1, or 0) and the latest write
 // of each variable: the number of the first "no", or 0, and then the tables stand before the next event.
 fn ask(records: &[u8], e: usize, holders: &mut [u8], writes: &mut [u16]) -> u64
-    requires { ⌜ (1 ≤ e) × (2 * e ≤ length (now records)) × (e < 4096)
+    requires { ⌜ (1 ≤ e) × (2 * e ≤ length (now records)) × (e < tableLength)
         × Asked (decodeAll (now records)) e (now holders) (now writes) ⌝ }
     ensures { λ r. ⌜ (r ≡ fault (decodeAll (now (records .entry))) e)
         × (r ≡ 0 → Asked (decodeAll (now (records .entry))) (e + 1) (now (holders .exit))
@@ -95,7 +96,7 @@ fn ask(records: &[u8], e: usize, holders: &mut [u8], writes: &mut [u16]) -> u64
 
 // Puts questions 4 to 7 event by event: the earliest event with a "no" decides.
 fn check_events(records: &[u8]) -> Outcome
-    requires { ⌜ length (now records) ≤ 8190 ⌝ }
+    requires { ⌜ length (now records) ≤ recordsLength ⌝ }
     ensures { λ r. ⌜ r ≡ checkEvents (decodeAll (now (records .entry))) ⌝ }
 {
     let mut holders = [0u8; 64];
@@ -120,7 +121,7 @@ fn check_events(records: &[u8]) -> Outcome
 // The event count that the header gives, in the low 12 bits.
 pub fn event_count(recording: &[u8]) -> usize
     requires { ⌜ 2 ≤ length (now recording) ⌝ }
-    ensures { λ r. ⌜ (r < 4096) × (r ≡ eventCount (now (recording .entry))) ⌝ }
+    ensures { λ r. ⌜ (r < tableLength) × (r ≡ eventCount (now (recording .entry))) ⌝ }
 {
     (((recording[0] & 15) as usize) << 8) | (recording[1] as usize)
 }

@@ -11,7 +11,7 @@ use lib.Bits.{bitOr, bitXor}
 use lib.Dec.{T}
 use lib.ListN.{length, getD, set}
 use borrow.Author.Tests.{eq-eqb, ne-eqb}
-use Rattle.model.specs.Trace.{Trace, tasks, locks, at, task, object, isWrite, isAcquire, isRelease}
+use Rattle.model.specs.Trace.{Trace, tasks, locks, variables, at, task, object, isWrite, isAcquire, isRelease}
 use Rattle.model.specs.Recording.{decodeAll}
 use Rattle.model.specs.Relations.{predecessor, writer, held}
 use Rattle.model.specs.Calls.Check.{checkEvents}
@@ -46,8 +46,8 @@ module _ (σ : Trace) (e t : ℕ) (is-task : (t < tasks) × (t ≡ task σ e)) (
 -- ---- the writer
 
 module _ (σ : Trace) (e op v : ℕ) (is-op : (op < 4) × (op ≡ at σ e .op))
-    (is-object : (v < 1024) × (v ≡ object σ e))
-    (writes : List ℕ) (long : length writes ≡ 1024) (z : LatestEvents (isWrite σ) (object σ) e writes) where
+    (is-object : (v < variables) × (v ≡ object σ e)) (writes : List ℕ) (long : length writes ≡ variables)
+    (z : LatestEvents (isWrite σ) (object σ) e writes) where
   -- What is noted as the writer of a read.
   pub writer-noted : op ≡ 0 → (table : List ℕ) → Filled (writer σ) e table → e < length table
       → Filled (writer σ) (e + 1) (set table e (getD writes v 0))
@@ -122,14 +122,14 @@ module _ (b : List ℕ) (accepted : checkEvents (decodeAll b) .refusal ≡ 0) (e
         (rw (is-task .1) (locksets-held (decodeAll b) e locksets z (omega arith)))
 
     -- An acquire's task holds its lock,
-    pub acquire-noted : op ≡ 2 → (l : ℕ) → (l < 1024) × (l ≡ object (decodeAll b) e)
+    pub acquire-noted : op ≡ 2 → (l : ℕ) → (l < variables) × (l ≡ object (decodeAll b) e)
         → Locksets (decodeAll b) (e + 1) (set locksets t (bitOr (getD locksets t 0) (1 * 2 ^ l % 2 ^ 64)))
     acquire-noted a l is-object =
         rw (add-one e, is-task .1, is-object .1)
         (locksets-acquire (decodeAll b) e locksets z (omega arith) (acquire a) (lock-bound (omega arith)))
 
     -- a release's no more,
-    pub release-noted : op ≡ 3 → (l : ℕ) → (l < 1024) × (l ≡ object (decodeAll b) e)
+    pub release-noted : op ≡ 3 → (l : ℕ) → (l < variables) × (l ≡ object (decodeAll b) e)
         → Locksets (decodeAll b) (e + 1) (set locksets t (bitXor (getD locksets t 0) (1 * 2 ^ l % 2 ^ 64)))
     release-noted a l is-object =
         rw (add-one e, is-task .1, is-object .1)
@@ -144,7 +144,7 @@ module _ (b : List ℕ) (accepted : checkEvents (decodeAll b) .refusal ≡ 0) (e
 
   -- ---- matches
 
-  module _ (l : ℕ) (is-object : (l < 1024) × (l ≡ object (decodeAll b) e)) (acquires : List ℕ)
+  module _ (l : ℕ) (is-object : (l < variables) × (l ≡ object (decodeAll b) e)) (acquires : List ℕ)
       (long : length acquires ≡ locks)
       (z : LatestEvents (isAcquire (decodeAll b)) (object (decodeAll b)) e acquires) where
     -- The latest acquire of a release's lock is earlier.

@@ -7,7 +7,7 @@ use mathlib.Core.List.{List}
 use native.Mathlib.Omega.{arith}
 use lib.Count.{ones, ones-le}
 use lib.ListN.{length, getD, replicate, length-replicate}
-use Rattle.model.specs.Trace.{Trace, tasks, locks, at, task, object, isWrite, isAcquire}
+use Rattle.model.specs.Trace.{Trace, tasks, locks, variables, at, task, object, isWrite, isAcquire}
 use Rattle.model.specs.Recording.{decodeAll}
 use Rattle.model.specs.Relations.{predecessor, writer, matching, held}
 use Rattle.model.specs.declared.Relations.{Relations}
@@ -20,26 +20,28 @@ use Rattle.laws.proofs.Matches.{matches-start, matches-end}
 use Rattle.relations.specs.Tables.{operation, Tables, Long, Noted}
 
 -- Before event 1 the tables are clear.
-pub noted-start : (σ : Trace) (operations tasks objects holding predecessors writers matches : List ℕ)
-    → Long operations tasks objects holding predecessors writers matches
-    → Noted σ 1 operations tasks objects holding predecessors writers matches
-    (replicate 16 0) (replicate 1024 0) (replicate 16 0) (replicate 64 0)
-noted-start σ operations tasks objects holding predecessors writers matches long = record {
+pub noted-start : (σ : Trace) (operations owners objects holding predecessors writers matches : List ℕ)
+    → Long operations owners objects holding predecessors writers matches
+    → Noted σ 1 operations owners objects holding predecessors writers matches
+    (replicate tasks 0) (replicate variables 0) (replicate tasks 0) (replicate locks 0)
+noted-start σ operations owners objects holding predecessors writers matches long = record {
   long = long;
-  latest-long = refl;
-  write-long = length-replicate {A = ℕ} 1024 0;
-  acquire-long = refl;
+  working = record {
+    latest-long = refl;
+    write-long = length-replicate {A = ℕ} variables 0;
+    acquire-long = refl;
+  };
   operation-filled = filled-start (operation σ) operations;
-  task-filled = filled-start (task σ) tasks;
+  task-filled = filled-start (task σ) owners;
   object-filled = filled-start (object σ) objects;
   held-filled = filled-start (held σ) holding;
   predecessor-filled = filled-start (predecessor σ) predecessors;
   writer-filled = filled-start (writer σ) writers;
   matching-filled = matches-start σ matches;
-  latest-event = latest-start (λ f. true) (task σ) 16;
-  latest-write = latest-start (isWrite σ) (object σ) 1024;
+  latest-event = latest-start (λ f. true) (task σ) tasks;
+  latest-write = latest-start (isWrite σ) (object σ) variables;
   lockset = locksets-start σ;
-  latest-acquire = latest-start (isAcquire σ) (object σ) 64;
+  latest-acquire = latest-start (isAcquire σ) (object σ) locks;
 }
 
 -- After the last event each table has its relation for every event.

@@ -5,13 +5,10 @@ use mathlib.Core.Path.{_≡_}
 use mathlib.Core.Bool.{true}
 use mathlib.Core.List.{List}
 use lib.ListN.{length, getD}
-use Rattle.model.specs.Trace.{Trace, at, task, object, isWrite, isAcquire}
+use Rattle.model.specs.Trace.{Trace, tasks, locks, variables, at, task, object, isWrite, isAcquire}
 use Rattle.model.specs.Relations.{predecessor, writer, matching, held}
+use Rattle.laws.specs.Sizes.{tableLength}
 use Rattle.laws.specs.Walked.{Filled, LatestEvents, Locksets, Matches}
-
--- How long each table is: an entry for each event of the longest recording, and one for event number 0.
-abbrev pub tableLength : ℕ
-tableLength = 4096
 
 -- The operation of an event, as a relation.
 abbrev pub operation : Trace → ℕ → ℕ
@@ -39,14 +36,18 @@ pub record Tables (σ : Trace) (operations tasks objects holding predecessors wr
   pub writer-at : (e : ℕ) → 1 ≤ e → e ≤ length σ → getD writers e 0 ≡ writer σ e
   pub matching-at : (e : ℕ) → 1 ≤ e → e ≤ length σ → getD matches e 0 ≡ matching σ e
 
+-- The working tables have an entry for each task, for each variable and for each lock.
+pub record Working (latest writes acquires : List ℕ) : Type 0 where
+  pub latest-long : length latest ≡ tasks
+  pub write-long : length writes ≡ variables
+  pub acquire-long : length acquires ≡ locks
+
 -- The tables right before event e is noted: each has its relation for the earlier events, and the working
 -- tables hold what noting event e asks for.
 pub record Noted (σ : Trace) (e : ℕ) (operations tasks objects holding predecessors writers matches : List ℕ)
     (latest writes locksets acquires : List ℕ) : Type 0 where
   pub long : Long operations tasks objects holding predecessors writers matches
-  pub latest-long : length latest ≡ 16
-  pub write-long : length writes ≡ 1024
-  pub acquire-long : length acquires ≡ 64
+  pub working : Working latest writes acquires
   pub operation-filled : Filled (operation σ) e operations
   pub task-filled : Filled (task σ) e tasks
   pub object-filled : Filled (object σ) e objects

@@ -4,11 +4,12 @@ ghost use Prim.Native.Nat.{_+_, _*_, _/_, _<_, _≤_};
 ghost use mathlib.Core.Path.{_≡_};
 ghost use mathlib.Core.Bool.{true};
 ghost use lib.ListN.{length};
-ghost use Rattle.model.specs.Trace.{task, object, isWrite, isAcquire};
+ghost use Rattle.model.specs.Trace.{tasks, locks, variables, task, object, isWrite, isAcquire};
 ghost use Rattle.model.specs.Recording.{decodeAll};
 ghost use Rattle.model.specs.Relations.{predecessor, writer, held};
 ghost use Rattle.model.specs.Calls.Check.{checkEvents};
 ghost use Rattle.model.specs.Calls.Relations.{relations};
+ghost use Rattle.laws.specs.Sizes.{recordsLength, tableLength};
 ghost use Rattle.laws.specs.Answered.{refusedRelations, eventRelations};
 ghost use Rattle.laws.specs.Walked.{Filled, LatestEvents, Locksets, Matches};
 ghost use Rattle.relations.specs.Tables.{operation, Tables, Noted};
@@ -21,8 +22,9 @@ fn note_record(
     tasks: &mut [u8],
     objects: &mut [u16],
 )
-    requires { ⌜ (1 ≤ e) × (2 * e ≤ length (now records)) × (e < 4096)
-        × (length (now operations) ≡ 4096) × (length (now tasks) ≡ 4096) × (length (now objects) ≡ 4096)
+    requires { ⌜ (1 ≤ e) × (2 * e ≤ length (now records)) × (e < tableLength)
+        × (length (now operations) ≡ tableLength) × (length (now tasks) ≡ tableLength)
+        × (length (now objects) ≡ tableLength)
         × Filled (operation (decodeAll (now records))) e (now operations)
         × Filled (task (decodeAll (now records))) e (now tasks)
         × Filled (object (decodeAll (now records))) e (now objects) ⌝ }
@@ -37,11 +39,11 @@ fn note_record(
 
 // Notes event e's predecessor: the latest event of its task.
 fn note_task(records: &[u8], e: usize, predecessors: &mut [u16], latest: &mut [u16])
-    requires { ⌜ (1 ≤ e) × (2 * e ≤ length (now records)) × (e < 4096)
-        × (length (now predecessors) ≡ 4096) × (length (now latest) ≡ 16)
+    requires { ⌜ (1 ≤ e) × (2 * e ≤ length (now records)) × (e < tableLength)
+        × (length (now predecessors) ≡ tableLength) × (length (now latest) ≡ tasks)
         × Filled (predecessor (decodeAll (now records))) e (now predecessors)
         × LatestEvents (λ f. true) (task (decodeAll (now records))) e (now latest) ⌝ }
-    ensures { λ r. ⌜ (length (now (latest .exit)) ≡ 16)
+    ensures { λ r. ⌜ (length (now (latest .exit)) ≡ tasks)
         × Filled (predecessor (decodeAll (now (records .entry)))) (e + 1) (now (predecessors .exit))
         × LatestEvents (λ f. true) (task (decodeAll (now (records .entry)))) (e + 1) (now (latest .exit)) ⌝ }
 {
@@ -52,12 +54,12 @@ fn note_task(records: &[u8], e: usize, predecessors: &mut [u16], latest: &mut [u
 
 // Notes event e's writer: of a read, the latest write of its variable.
 fn note_access(records: &[u8], e: usize, writers: &mut [u16], writes: &mut [u16])
-    requires { ⌜ (1 ≤ e) × (2 * e ≤ length (now records)) × (e < 4096)
-        × (length (now writers) ≡ 4096) × (length (now writes) ≡ 1024)
+    requires { ⌜ (1 ≤ e) × (2 * e ≤ length (now records)) × (e < tableLength)
+        × (length (now writers) ≡ tableLength) × (length (now writes) ≡ variables)
         × Filled (writer (decodeAll (now records))) e (now writers)
         × LatestEvents (isWrite (decodeAll (now records))) (object (decodeAll (now records))) e
         (now writes) ⌝ }
-    ensures { λ r. ⌜ (length (now (writes .exit)) ≡ 1024)
+    ensures { λ r. ⌜ (length (now (writes .exit)) ≡ variables)
         × Filled (writer (decodeAll (now (records .entry)))) (e + 1) (now (writers .exit))
         × LatestEvents (isWrite (decodeAll (now (records .entry))))
         (object (decodeAll (now (records .entry))))
@@ -78,8 +80,8 @@ fn note_access(records: &[u8], e: usize, writers: &mut [u16], writes: &mut [u16]
 // Notes event e's held locks: those of its task, to which an acquire then adds its lock, and from which a
 // release takes it.
 fn note_held(records: &[u8], e: usize, holding: &mut [u64], locksets: &mut [u64])
-    requires { ⌜ (1 ≤ e) × (2 * e ≤ length (now records)) × (e < 4096) × (length (now holding) ≡ 4096)
-        × (checkEvents (decodeAll (now records)) .refusal ≡ 0)
+    requires { ⌜ (1 ≤ e) × (2 * e ≤ length (now records)) × (e < tableLength)
+        × (length (now holding) ≡ tableLength) × (checkEvents (decodeAll (now records)) .refusal ≡ 0)
         × Filled (held (decodeAll (now records))) e (now holding)
         × Locksets (decodeAll (now records)) e (now locksets) ⌝ }
     ensures { λ r. ⌜ Filled (held (decodeAll (now (records .entry)))) (e + 1) (now (holding .exit))
@@ -100,13 +102,13 @@ fn note_held(records: &[u8], e: usize, holding: &mut [u64], locksets: &mut [u64]
 
 // Notes event e's match: a release and the latest acquire of its lock are each other's.
 fn note_match(records: &[u8], e: usize, matches: &mut [u16], acquires: &mut [u16])
-    requires { ⌜ (1 ≤ e) × (2 * e ≤ length (now records)) × (e < 4096)
-        × (length (now matches) ≡ 4096) × (length (now acquires) ≡ 64)
+    requires { ⌜ (1 ≤ e) × (2 * e ≤ length (now records)) × (e < tableLength)
+        × (length (now matches) ≡ tableLength) × (length (now acquires) ≡ locks)
         × (checkEvents (decodeAll (now records)) .refusal ≡ 0)
         × Matches (decodeAll (now records)) e (now matches)
         × LatestEvents (isAcquire (decodeAll (now records))) (object (decodeAll (now records))) e
         (now acquires) ⌝ }
-    ensures { λ r. ⌜ (length (now (acquires .exit)) ≡ 64)
+    ensures { λ r. ⌜ (length (now (acquires .exit)) ≡ locks)
         × Matches (decodeAll (now (records .entry))) (e + 1) (now (matches .exit))
         × LatestEvents (isAcquire (decodeAll (now (records .entry))))
         (object (decodeAll (now (records .entry))))
@@ -143,7 +145,7 @@ fn note_event(
     locksets: &mut [u64],
     acquires: &mut [u16],
 )
-    requires { ⌜ (1 ≤ e) × (2 * e ≤ length (now records)) × (e < 4096)
+    requires { ⌜ (1 ≤ e) × (2 * e ≤ length (now records)) × (e < tableLength)
         × (checkEvents (decodeAll (now records)) .refusal ≡ 0)
         × Noted (decodeAll (now records)) e (now operations) (now tasks) (now objects) (now holding)
         (now predecessors) (now writers) (now matches) (now latest) (now writes) (now locksets)
@@ -172,10 +174,11 @@ pub fn fill_tables(
     writers: &mut [u16],
     matches: &mut [u16],
 )
-    requires { ⌜ (length (now records) ≤ 8190) × (checkEvents (decodeAll (now records)) .refusal ≡ 0)
-        × (length (now operations) ≡ 4096) × (length (now tasks) ≡ 4096) × (length (now objects) ≡ 4096)
-        × (length (now holding) ≡ 4096) × (length (now predecessors) ≡ 4096) × (length (now writers) ≡ 4096)
-        × (length (now matches) ≡ 4096) ⌝ }
+    requires { ⌜ (length (now records) ≤ recordsLength) × (checkEvents (decodeAll (now records)) .refusal ≡ 0)
+        × (length (now operations) ≡ tableLength) × (length (now tasks) ≡ tableLength)
+        × (length (now objects) ≡ tableLength) × (length (now holding) ≡ tableLength)
+        × (length (now predecessors) ≡ tableLength) × (length (now writers) ≡ tableLength)
+        × (length (now matches) ≡ tableLength) ⌝ }
     ensures { λ r. ⌜ Tables (decodeAll (now (records .entry))) (now (operations .exit)) (now (tasks .exit))
         (now (objects .exit)) (now (holding .exit)) (now (predecessors .exit)) (now (writers .exit))
         (now (matches .exit)) ⌝ }
@@ -222,7 +225,7 @@ fn refused(refusal: u64, event: u64) -> model::Relations
 
 // The relations of event e of records whose events are accepted, read off the tables.
 fn relations_of(records: &[u8], e: usize) -> model::Relations
-    requires { ⌜ (length (now records) ≤ 8190) × (checkEvents (decodeAll (now records)) .refusal ≡ 0)
+    requires { ⌜ (length (now records) ≤ recordsLength) × (checkEvents (decodeAll (now records)) .refusal ≡ 0)
         × (1 ≤ e) × (e ≤ length (now records) / 2) ⌝ }
     ensures { λ r. ⌜ r ≡ eventRelations (decodeAll (now (records .entry))) e ⌝ }
 {

@@ -8,7 +8,7 @@ use native.Mathlib.Omega.{arith}
 use lib.Dec.{eqb, leb}
 use lib.ListN.{length, getD}
 use borrow.Author.Tests.{eq-eqb, ne-eqb, le-leb, lt-leb}
-use Rattle.model.specs.Trace.{Trace, tasks, at, task, object}
+use Rattle.model.specs.Trace.{Trace, tasks, variables, at, task, object}
 use Rattle.model.specs.Relations.{predecessor, writer, matching}
 use Rattle.model.specs.Recording.{decodeAll}
 use Rattle.model.specs.Schedule.{mayFollow}
@@ -17,7 +17,6 @@ use Rattle.laws.proofs.Trace.{decodeAll-length}
 use Rattle.laws.proofs.Relations.{matching-le}
 use Rattle.laws.proofs.Faults.{isRead-op, isAcquire-op}
 use Rattle.laws.proofs.Questions.{events-sound}
-use Rattle.recording.specs.Asked.{variables}
 use Rattle.schedule.specs.Listed.{Listed}
 use Rattle.schedule.specs.Next.{isListed, isNext, isUnlocked}
 use Rattle.laws.proofs.WellFormed.{acquire-lock}

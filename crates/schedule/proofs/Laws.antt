@@ -9,7 +9,7 @@ use native.Mathlib.Omega.{arith}
 use lib.Dec.{T, not-T, eqb, eqb→eq, leb→le, le→leb}
 use lib.ListN.{length, getD}
 use borrow.Author.Tests.{eq-eqb, ne-eqb, le-leb, lt-leb}
-use Rattle.model.specs.Trace.{Trace, tasks, locks, at, task, object, isRead, isAcquire, sameObject}
+use Rattle.model.specs.Trace.{Trace, tasks, locks, variables, at, task, object, isRead, isAcquire, sameObject}
 use Rattle.model.specs.Relations.{predecessor, writer, matching}
 use Rattle.model.specs.Schedule.{latestWrite, mayFollow, enabled}
 use Rattle.laws.proofs.Tests.{parts, and-i, T-ext, is-true, is-false, eq→eqb, equal?, at-most?}
@@ -17,7 +17,6 @@ use Rattle.laws.proofs.Lists.{member-iff}
 use Rattle.laws.proofs.Trace.{isEvent-iff, sameTask-iff, sameObject-iff}
 use Rattle.laws.proofs.Relations.{predecessor-latest, predecessor-below, matching-below}
 use Rattle.laws.proofs.Schedule.{Prior, mayFollow-iff, enabled-iff}
-use Rattle.recording.specs.Asked.{variables}
 use Rattle.schedule.specs.Listed.{UpTo, Acquired, Listed}
 use Rattle.schedule.specs.Next.{isListed, isNext, isUnlocked}
 

@@ -11,7 +11,8 @@ use lib.ListN.{length, getD, set, replicate, length-set, length-replicate}
 use lib.Seq.{getD-set-same, getD-set-other}
 use borrow.Author.Tests.{eq-eqb, ne-eqb, lt-leb}
 use Rattle.model.specs.Lists.{member}
-use Rattle.model.specs.Trace.{Trace, tasks, locks, at, task, object, isWrite, isAcquire, sameObject}
+use Rattle.model.specs.Trace.{Trace, tasks, locks, variables, at, task, object}
+use Rattle.model.specs.Trace.{isWrite, isAcquire, sameObject}
 use Rattle.model.specs.Relations.{matching}
 use Rattle.model.specs.Schedule.{latestWrite, mayFollow}
 use Rattle.laws.specs.Frontier.{Frontier}
@@ -21,7 +22,6 @@ use Rattle.laws.proofs.Trace.{isEvent-iff, sameTask-iff, sameObject-iff}
 use Rattle.laws.proofs.WellFormed.{WellFormed, acquire-lock}
 use Rattle.laws.proofs.Faults.{isWrite-op, isAcquire-op}
 use Rattle.laws.proofs.Schedule.{MayFollow, mayFollow-iff}
-use Rattle.recording.specs.Asked.{variables}
 use Rattle.schedule.specs.Listed.{UpTo, Acquired, Written, Listed}
 use Rattle.schedule.proofs.Laws.{listed-iff, Clear}
 

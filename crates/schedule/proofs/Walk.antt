@@ -10,7 +10,7 @@ use lib.Dec.{T, eqb}
 use lib.ListN.{length, getD, drop, replicate, drop-of-length-le}
 use lib.Seq.{drop-cons}
 use Rattle.model.specs.Lists.{member}
-use Rattle.model.specs.Trace.{Trace, tasks, locks}
+use Rattle.model.specs.Trace.{Trace, tasks, locks, variables}
 use Rattle.model.specs.Recording.{decodeAll}
 use Rattle.model.specs.Bytes.{numbers}
 use Rattle.model.specs.Schedule.{mayFollow, continues, syncPreserving}
@@ -19,7 +19,6 @@ use Rattle.laws.proofs.Lists.{member-iff}
 use Rattle.laws.proofs.Bytes.{numbers-length}
 use Rattle.laws.proofs.Trace.{decodeAll-length, isEvent-iff}
 use Rattle.laws.proofs.Schedule.{mayFollow-iff}
-use Rattle.recording.specs.Asked.{variables}
 use Rattle.schedule.specs.Listed.{UpTo, Listed, Ready}
 use Rattle.schedule.proofs.Asking.{Answers}
 use Rattle.schedule.proofs.Noting.{listed-start}

@@ -9,12 +9,11 @@ use lib.Dec.{T, leb}
 use lib.ListN.{length, getD}
 use Rattle.model.specs.Lists.{member}
 use Rattle.model.specs.Bytes.{numbers, isWhole}
-use Rattle.model.specs.Trace.{Trace, tasks, locks, task, object, isAcquire}
+use Rattle.model.specs.Trace.{Trace, tasks, locks, variables, task, object, isAcquire}
 use Rattle.model.specs.Relations.{matching}
 use Rattle.model.specs.Pattern.{isPattern}
 use Rattle.model.specs.Schedule.{latestWrite, witnesses}
 use Rattle.laws.specs.Frontier.{Frontier}
-use Rattle.recording.specs.Asked.{variables}
 
 -- For each task the latest listed event, or 0: its listed events are those up to there.
 pub record UpTo (σ : Trace) (ρ last : List ℕ) : Type 0 where

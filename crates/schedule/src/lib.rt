@@ -14,6 +14,7 @@ ghost use Rattle.model.specs.Bytes.{numbers, isWhole};
 ghost use Rattle.model.specs.Schedule.{mayFollow, syncPreserving, witnesses};
 ghost use Rattle.model.specs.Calls.Check.{checkEvents};
 ghost use Rattle.model.specs.Calls.CheckSchedule.{checkSchedule};
+ghost use Rattle.laws.specs.Sizes.{recordsLength, tableLength};
 ghost use Rattle.frontier.specs.Visit.{Needed};
 ghost use Rattle.deadlock.specs.Judged.{Holding};
 ghost use Rattle.schedule.specs.Listed.{UpTo, Listed, Ready, answered};
@@ -32,8 +33,8 @@ fn is_listed(records: &[u8], last: &[u16], e: u16) -> bool
 
 // Whether event e comes next in its task: its predecessor is the latest listed event there.
 fn is_next(records: &[u8], predecessors: &[u16], last: &[u16], e: u16) -> bool
-    requires { ⌜ (1 ≤ e) × (2 * e ≤ length (now records)) × (length (now records) ≤ 8190)
-        × (length (now predecessors) ≡ 4096) × (length (now last) ≡ tasks)
+    requires { ⌜ (1 ≤ e) × (2 * e ≤ length (now records)) × (length (now records) ≤ recordsLength)
+        × (length (now predecessors) ≡ tableLength) × (length (now last) ≡ tasks)
         × (getD (now predecessors) e 0 ≡ predecessor (decodeAll (now records)) e) ⌝ }
     ensures { λ r. ⌜ r ≡ isNext (decodeAll (now (records .entry))) (now (last .entry)) e ⌝ }
 {
@@ -44,8 +45,8 @@ fn is_next(records: &[u8], predecessors: &[u16], last: &[u16], e: u16) -> bool
 // Whether acquire e finds its lock free and keeps lock order: no acquire of it is listed, or the latest one
 // is earlier and its match is listed.
 fn is_unlocked(records: &[u8], matches: &[u16], last: &[u16], acquires: &[u16], e: u16) -> bool
-    requires { ⌜ (1 ≤ e) × (2 * e ≤ length (now records)) × (length (now records) ≤ 8190)
-        × (length (now matches) ≡ 4096) × (length (now last) ≡ tasks) × (length (now acquires) ≡ locks)
+    requires { ⌜ (1 ≤ e) × (2 * e ≤ length (now records)) × (length (now records) ≤ recordsLength)
+        × (length (now matches) ≡ tableLength) × (length (now last) ≡ tasks) × (length (now acquires) ≡ locks)
         × (object (decodeAll (now records)) e < locks)
         × (getD (now acquires) (object (decodeAll (now records)) e) 0 ≤ length (decodeAll (now records)))
         × ((f : ℕ) → 1 ≤ f → f ≤ length (decodeAll (now records))
@@ -75,7 +76,7 @@ fn follows(
     writes: &[u16],
     e: u16,
 ) -> bool
-    requires { ⌜ (length (now records) ≤ 8190) × (checkEvents (decodeAll (now records)) .refusal ≡ 0)
+    requires { ⌜ (length (now records) ≤ recordsLength) × (checkEvents (decodeAll (now records)) .refusal ≡ 0)
         × Needed (decodeAll (now records)) (now predecessors) (now writers) (now matches)
         × Ready (decodeAll (now records)) (now last) (now acquires) (now writes) ⌝ }
     ensures { λ r. ⌜ ((before : List ℕ)
@@ -137,7 +138,7 @@ fn keeps_order(
     schedule: &[u8],
     last: &mut [u16],
 ) -> bool
-    requires { ⌜ (length (now records) ≤ 8190) × (checkEvents (decodeAll (now records)) .refusal ≡ 0)
+    requires { ⌜ (length (now records) ≤ recordsLength) × (checkEvents (decodeAll (now records)) .refusal ≡ 0)
         × Needed (decodeAll (now records)) (now predecessors) (now writers) (now matches)
         × (now last ≡ replicate tasks 0) ⌝ }
     ensures { λ r. ⌜ (r ≡ syncPreserving (decodeAll (now (records .entry))) (numbers (now (schedule .entry))))
@@ -169,7 +170,7 @@ fn keeps_order(
 
 // Whether every event of the pattern comes next in its task after what is listed.
 fn leaves_next(records: &[u8], predecessors: &[u16], pattern: &[u8], last: &[u16]) -> bool
-    requires { ⌜ (length (now records) ≤ 8190) × (length (now predecessors) ≡ 4096)
+    requires { ⌜ (length (now records) ≤ recordsLength) × (length (now predecessors) ≡ tableLength)
         × (length (now last) ≡ tasks) × T (all (isEvent (decodeAll (now records))) (numbers (now pattern)))
         × ((f : ℕ) → 1 ≤ f → f ≤ length (decodeAll (now records))
         → getD (now predecessors) f 0 ≡ predecessor (decodeAll (now records)) f) ⌝ }
@@ -196,7 +197,7 @@ pub fn witnessed(
     pattern: &[u8],
     schedule: &[u8],
 ) -> bool
-    requires { ⌜ (length (now records) ≤ 8190) × (checkEvents (decodeAll (now records)) .refusal ≡ 0)
+    requires { ⌜ (length (now records) ≤ recordsLength) × (checkEvents (decodeAll (now records)) .refusal ≡ 0)
         × Needed (decodeAll (now records)) (now predecessors) (now writers) (now matches)
         × T (all (isEvent (decodeAll (now records))) (numbers (now pattern))) ⌝ }
     ensures { λ r. ⌜ r ≡ (isWhole (now (schedule .entry)) && witnesses (decodeAll (now (records .entry)))
@@ -222,7 +223,7 @@ fn decide(
     pattern: &[u8],
     schedule: &[u8],
 ) -> u64
-    requires { ⌜ (length (now records) ≤ 8190) × (checkEvents (decodeAll (now records)) .refusal ≡ 0)
+    requires { ⌜ (length (now records) ≤ recordsLength) × (checkEvents (decodeAll (now records)) .refusal ≡ 0)
         × Holding (decodeAll (now records)) (now holding)
         × Needed (decodeAll (now records)) (now predecessors) (now writers) (now matches) ⌝ }
     ensures { λ r. ⌜ r ≡ answered (decodeAll (now (records .entry))) (now (pattern .entry))
@@ -239,7 +240,8 @@ fn decide(
 
 // Decides them with tables of its own.
 fn judge(records: &[u8], pattern: &[u8], schedule: &[u8]) -> u64
-    requires { ⌜ (length (now records) ≤ 8190) × (checkEvents (decodeAll (now records)) .refusal ≡ 0) ⌝ }
+    requires { ⌜ (length (now records) ≤ recordsLength)
+        × (checkEvents (decodeAll (now records)) .refusal ≡ 0) ⌝ }
     ensures { λ r. ⌜ r ≡ answered (decodeAll (now (records .entry))) (now (pattern .entry))
         (now (schedule .entry)) ⌝ }
 {

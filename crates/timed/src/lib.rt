@@ -13,6 +13,7 @@ ghost use Rattle.model.specs.Calls.Load.{load};
 ghost use Rattle.model.specs.Calls.Close.{close, closeOut};
 ghost use Rattle.model.specs.Calls.Witness.{witness, witnessOut};
 ghost use Rattle.model.specs.Calls.CheckSchedule.{checkSchedule};
+ghost use Rattle.laws.specs.Sizes.{recordsLength, tableLength};
 ghost use Rattle.frontier.specs.Visit.{Needed};
 ghost use Rattle.deadlock.specs.Judged.{Holding};
 
@@ -28,8 +29,8 @@ pub extern "C" fn timed_check(recording: &[u8]) -> u64
 // Fills the tables of records whose events are accepted, and compares their entries n: a number to 4 that
 // depends on every table, so that the compiler leaves none out.
 fn compare_entries(records: &[u8], n: usize) -> u64
-    requires { ⌜ (length (now records) ≤ 8190) × (checkEvents (decodeAll (now records)) .refusal ≡ 0)
-        × (n < 4096) ⌝ }
+    requires { ⌜ (length (now records) ≤ recordsLength) × (checkEvents (decodeAll (now records)) .refusal ≡ 0)
+        × (n < tableLength) ⌝ }
     ensures { λ r. ⌜ r ≤ 4 ⌝ }
 {
     let mut operations = [0u8; 4096];
@@ -88,7 +89,7 @@ fn decide_often(
     pattern: &[u8],
     rounds: u64,
 ) -> u64
-    requires { ⌜ (length (now records) ≤ 8190) × (checkEvents (decodeAll (now records)) .refusal ≡ 0)
+    requires { ⌜ (length (now records) ≤ recordsLength) × (checkEvents (decodeAll (now records)) .refusal ≡ 0)
         × Holding (decodeAll (now records)) (now holding)
         × Needed (decodeAll (now records)) (now predecessors) (now writers) (now matches) ⌝ }
 {
@@ -112,7 +113,8 @@ fn decide_often(
 
 // Fills the tables of records whose events are accepted, and decides the pattern again and again.
 fn decide_with_tables(records: &[u8], pattern: &[u8], rounds: u64) -> u64
-    requires { ⌜ (length (now records) ≤ 8190) × (checkEvents (decodeAll (now records)) .refusal ≡ 0) ⌝ }
+    requires { ⌜ (length (now records) ≤ recordsLength)
+        × (checkEvents (decodeAll (now records)) .refusal ≡ 0) ⌝ }
 {
     let mut operations = [0u8; 4096];
     let mut tasks = [0u8; 4096];

@@ -16,8 +16,15 @@ note-access-requires c κs =
     c .before .before .before .before .before .before .before .before .before .before .before
     .before .before .before .before .before .before .before .before .before .before .before .before
     .before .before .before .before .before .before .before .before in
-    let z = s .pre .4 in
-    (s .pre .0, s .pre .1, s .pre .2, z .long .writer-long, z .write-long, z .writer-filled, z .latest-write)
+    let z = s .pre .4 in (
+      s .pre .0,
+      s .pre .1,
+      s .pre .2,
+      z .long .writer-long,
+      z .working .write-long,
+      z .writer-filled,
+      z .latest-write,
+    )
 
 note-held-requires : tie.Need-note-held-requires
 note-held-requires c κs =
@@ -41,7 +48,7 @@ note-match-requires c κs =
       s .pre .1,
       s .pre .2,
       z .long .matching-long,
-      z .acquire-long,
+      z .working .acquire-long,
       s .pre .3,
       z .matching-filled,
       z .latest-acquire,
@@ -113,9 +120,11 @@ returns c =
         writer-long = accesses .note-access .kept .1 .1 .0 ∙ z .writer-long;
         matching-long = matched .note-match .kept .1 .1 .0 ∙ z .matching-long;
       };
-      latest-long = tasks .note-task .ensures .0;
-      write-long = accesses .note-access .ensures .0;
-      acquire-long = matched .note-match .ensures .0;
+      working = record {
+        latest-long = tasks .note-task .ensures .0;
+        write-long = accesses .note-access .ensures .0;
+        acquire-long = matched .note-match .ensures .0;
+      };
       operation-filled = records .note-record .ensures .0;
       task-filled = records .note-record .ensures .1;
       object-filled = records .note-record .ensures .2;
