@@ -1,5 +1,5 @@
--- Which chains of a search lead nowhere: the ways back from each lock to the held locks of the first event, by
--- the number of further events. That they are such is in proofs/Returning.
+-- Which chains of a search lead nowhere: the ways back from each lock to the held locks of the first event,
+-- by the number of further events. That they are such is in proofs/Returning.
 use Prim.Native.Nat.{ℕ, suc, _≤_, _<_}
 use mathlib.Core.Path.{_≡_}
 use mathlib.Core.Logic.{_≢_}
