@@ -9,7 +9,7 @@ use native.Mathlib.Omega.{arith}
 use lib.Dec.{T, eqb}
 use lib.ListN.{length, getD, set, replicate, length-set, length-replicate}
 use borrow.Author.Tests.{eq-eqb, ne-eqb}
-use Rattle.model.specs.Trace.{Trace, tasks, locks, variables, at, task, object, isWrite}
+use Rattle.model.specs.Trace.{Trace, locks, variables, at, task, object, isWrite}
 use Rattle.model.specs.Relations.{holds, writer}
 use Rattle.model.specs.Recording.{decodeAll}
 use Rattle.model.specs.WellFormed.{isFree, fault}
@@ -17,7 +17,7 @@ use Rattle.model.specs.Calls.Questions.{outcome}
 use Rattle.model.specs.Calls.Check.{checkEvents}
 use Rattle.laws.specs.Walked.{Holder, Holders, LatestEvents}
 use Rattle.laws.proofs.Tests.{equal?}
-use Rattle.laws.proofs.Trace.{decodeAll-length}
+use Rattle.laws.proofs.Trace.{Unpacked, decodeAll-length}
 use Rattle.laws.proofs.LatestEvents.{latest-start, latest-set, latest-keep, latest-writer}
 use Rattle.laws.proofs.Holders.{holder-acquire, holder-release, holder-free, holders-start, holders-set}
 use Rattle.laws.proofs.Holders.{holders-access}
@@ -32,24 +32,22 @@ abbrev Answer : Trace → ℕ → ℕ → List ℕ → List ℕ → Type 0
 Answer σ e r holders writes = (r ≡ fault σ e) × (r ≡ 0 → Asked σ (e + 1) holders writes)
 
 -- An unpacked event, to which the check has come.
-pub record Unpacked (σ : Trace) (e op t l : ℕ) (holders writes : List ℕ) : Type 0 where
-  pub op-is : (op < 4) × (op ≡ at σ e .op)
-  pub task-is : (t < tasks) × (t ≡ task σ e)
-  pub object-is : (l < variables) × (l ≡ object σ e)
+pub record Coming (σ : Trace) (e op t l : ℕ) (holders writes : List ℕ) : Type 0 where
+  pub unpacked : Unpacked σ e op t l
   pub asked : Asked σ e holders writes
 
-module _ {σ : Trace} {e op t l : ℕ} {holders writes : List ℕ} (u : Unpacked σ e op t l holders writes) where
+module _ {σ : Trace} {e op t l : ℕ} {holders writes : List ℕ} (u : Coming σ e op t l holders writes) where
   z : Asked σ e holders writes
   z = u .asked
 
   is-op : op ≡ at σ e .op
-  is-op = u .op-is .1
+  is-op = u .unpacked .op-is .1
 
   is-task : t ≡ task σ e
-  is-task = u .task-is .1
+  is-task = u .unpacked .task-is .1
 
   is-object : l ≡ object σ e
-  is-object = u .object-is .1
+  is-object = u .unpacked .object-is .1
 
   next : (h w : List ℕ) → fault σ e ≡ 0 → Holders σ (suc e) h → length w ≡ variables
       → LatestEvents (isWrite σ) (object σ) (suc e) w → Asked σ (e + 1) h w
@@ -70,7 +68,7 @@ module _ {σ : Trace} {e op t l : ℕ} {holders writes : List ℕ} (u : Unpacked
       none : writer σ e ≡ 0
       none =
           sym (latest-writer σ e writes (z .write) (isRead-op σ e is-op ∙ eq-eqb op 0 a)
-          (omega (arith, z .long, u .object-is))) ∙ rw is-object at n
+          (omega (arith, z .long, u .unpacked .object-is))) ∙ rw is-object at n
 
   -- A read of a variable that was written.
   pub read-passed : op ≡ 0 → getD writes l 0 ≢ 0 → Answer σ e 0 holders writes
@@ -79,7 +77,7 @@ module _ {σ : Trace} {e op t l : ℕ} {holders writes : List ℕ} (u : Unpacked
       some : writer σ e ≢ 0
       some q =
           n (rw is-object (latest-writer σ e writes (z .write) (isRead-op σ e is-op ∙ eq-eqb op 0 a)
-          (omega (arith, z .long, u .object-is)) ∙ q))
+          (omega (arith, z .long, u .unpacked .object-is)) ∙ q))
 
       none : fault σ e ≡ 0
       none = fault-read σ e is-op a ∙ rw (ne-eqb (writer σ e) 0 some)
@@ -97,7 +95,7 @@ module _ {σ : Trace} {e op t l : ℕ} {holders writes : List ℕ} (u : Unpacked
         λ _. next holders (set writes (object σ e) e) (fault-write σ e is-op a) keeps
             (length-set writes (object σ e) e ∙ z .long)
             (latest-set (isWrite σ) (object σ) e writes (z .write) write
-            (omega (arith, z .long, u .object-is))),
+            (omega (arith, z .long, u .unpacked .object-is))),
       )
     where
       write : T (isWrite σ e)

@@ -18,7 +18,7 @@ use Rattle.model.specs.Schedule.{latestWrite, mayFollow}
 use Rattle.laws.specs.Frontier.{Frontier}
 use Rattle.laws.proofs.Tests.{and-i, or-l, or-r, or-elim, T-ext, eq→eqb, equal?, at-most?}
 use Rattle.laws.proofs.Lists.{member-iff, zeros}
-use Rattle.laws.proofs.Trace.{isEvent-iff, sameTask-iff, sameObject-iff}
+use Rattle.laws.proofs.Trace.{Unpacked, isEvent-iff, sameTask-iff, sameObject-iff}
 use Rattle.laws.proofs.WellFormed.{WellFormed, acquire-lock}
 use Rattle.laws.proofs.Faults.{isWrite-op, isAcquire-op}
 use Rattle.laws.proofs.Schedule.{MayFollow, mayFollow-iff}
@@ -181,12 +181,6 @@ module _ (σ : Trace) (before writes : List ℕ) (z : Written σ before writes) 
   }
 
 -- ---- the three tables
-
--- An event as the code has unpacked it.
-pub record Unpacked (σ : Trace) (e op t o : ℕ) : Type 0 where
-  pub op-is : (op < 4) × (op ≡ at σ e .op)
-  pub task-is : (t < tasks) × (t ≡ task σ e)
-  pub object-is : (o < variables) × (o ≡ object σ e)
 
 module _ (σ : Trace) (ok : WellFormed σ) {e op t o : ℕ} (u : Unpacked σ e op t o)
     (before last acquires writes : List ℕ) (z : Listed σ before last acquires writes)

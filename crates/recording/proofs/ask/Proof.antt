@@ -1,22 +1,24 @@
 -- `recording::ask` meets its contract: each return cites the law of its case. Assumes nothing.
 use borrow.Author.Needs.{needs}
 use Rattle.model.specs.Recording.{decodeAll}
-use Rattle.recording.proofs.Laws.{Unpacked, read-refused, read-passed, written, no-lock}
+use Rattle.recording.proofs.Laws.{Coming, read-refused, read-passed, written, no-lock}
 use Rattle.recording.proofs.Laws.{acquire-refused, acquire-passed, release-refused, release-passed}
 use Rattle.recording.proofs.ask.Statement.{statement}
 use Rattle.recording.proofs.ask.Tie as tie
 
 -- The event as it was unpacked.
 unpacked : (c : tie.After-object)
-    → Unpacked (decodeAll (c .before .before .before .before .before .before .args .records .now))
+    → Coming (decodeAll (c .before .before .before .before .before .before .args .records .now))
     (c .before .before .before .before .before .before .args .e) (c .before .before .operation .result)
     (c .before .task .result) (c .object .result)
     (c .before .before .before .before .before .before .args .holders .now)
     (c .before .before .before .before .before .before .args .writes .now)
 unpacked c = record {
-  op-is = c .before .before .operation .ensures;
-  task-is = c .before .task .ensures;
-  object-is = c .object .ensures;
+  unpacked = record {
+    op-is = c .before .before .operation .ensures;
+    task-is = c .before .task .ensures;
+    object-is = c .object .ensures;
+  };
   asked = c .before .before .before .before .before .before .pre .3;
 }
 

@@ -4,7 +4,8 @@ use borrow.Author.Needs.{needs}
 use Rattle.model.specs.Recording.{decodeAll}
 use Rattle.laws.proofs.Questions.{events-sound}
 use Rattle.laws.proofs.WellFormed.{acquire-lock}
-use Rattle.schedule.proofs.Noting.{Unpacked, write-noted, acquire-noted, other-noted}
+use Rattle.laws.proofs.Trace.{Unpacked}
+use Rattle.schedule.proofs.Noting.{write-noted, acquire-noted, other-noted}
 use Rattle.schedule.proofs.note.Statement.{statement}
 use Rattle.schedule.proofs.note.Tie as tie
 
