@@ -78,11 +78,8 @@ module _ (σ : Trace) where
       → Leading σ a (task σ a) (held σ a) lead
   leading-all ok a lead z = record {
     long = z .long;
-    leads = λ e h k t d g. z .leads e (omega arith) k t (λ q. absurd (omega (
-      arith,
-      ok .task-lt e
-          (omega arith) k,
-    ))) (apart-none (held σ e));
+    leads = λ e h k t d g. z .leads e (omega arith) k t
+        (λ q. absurd (omega (arith, ok .task-lt e (omega arith) (omega arith)))) (apart-none (held σ e));
   }
     where
       apart-none : (m : ℕ) → T (eqb (bitAnd 0 m) 0)
@@ -112,8 +109,8 @@ module _ (σ : Trace) where
           T-not (hasBit (getD back (suc i) 0) (object σ (c .last))) (rw h tt)
           (z .leads i l (object σ e) (lock-lt σ ok e (omega arith) k (or-l (isAcquire σ e) _ (f .acquires))) t
           (object σ (c .last))
-          (leading .leads e j k (f .acquires) (rw q at (f .other)) (rw q at (f .apart)) (object σ (c .last))
-          (f .holds-last)))))
+          (leading .leads e j (omega (arith, k)) (f .acquires) (rw q at (f .other)) (rw q at (f .apart))
+          (object σ (c .last)) (f .holds-last)))))
 
       nowhere : (i : ℕ) → i < count → (c : Chain) → c .first ≡ a → Rooted σ c
           → hasBit (getD back i 0) (object σ (c .last)) ≡ false → extensions σ i c ≡ []

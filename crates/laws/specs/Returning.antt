@@ -1,6 +1,6 @@
 -- Which chains of a search lead nowhere: the ways back from each lock to the held locks of the first event,
 -- by the number of further events. That they are such is in proofs/Returning.
-use Prim.Native.Nat.{ℕ, suc, _≤_, _<_}
+use Prim.Native.Nat.{ℕ, suc, _+_, _<_}
 use mathlib.Core.Path.{_≡_}
 use mathlib.Core.Logic.{_≢_}
 use mathlib.Core.Bool.{false}
@@ -24,12 +24,16 @@ pub record Rooted (σ : Trace) (c : Chain) : Type 0 where
 abbrev pub Covers : ℕ → ℕ → Type 0
 Covers inner outer = (l : ℕ) → T (hasBit inner l) → T (hasBit outer l)
 
--- For each lock, the locks held at its acquires after event a, by other tasks than t and with none of the
--- held locks given. The table may have more.
-pub record Leading (σ : Trace) (a t guards : ℕ) (lead : List ℕ) : Type 0 where
+-- For each lock, the locks held at its acquires after event a and before event `stop`, by other tasks than t
+-- and with none of the held locks given. The table may have more.
+pub record Led (σ : Trace) (a stop t guards : ℕ) (lead : List ℕ) : Type 0 where
   pub long : length lead ≡ locks
-  pub leads : (e : ℕ) → a < e → e ≤ length σ → T (isAcquire σ e) → task σ e ≢ t
+  pub leads : (e : ℕ) → a < e → e < stop → T (isAcquire σ e) → task σ e ≢ t
       → T (eqb (bitAnd guards (held σ e)) 0) → Covers (held σ e) (getD lead (object σ e) 0)
+
+-- The same for all acquires after event a.
+abbrev pub Leading : Trace → ℕ → ℕ → ℕ → List ℕ → Type 0
+Leading σ a t guards lead = Led σ a (length σ + 1) t guards lead
 
 -- Each entry has the locks of the one before it, and those that lead to them. The table may have more.
 pub record Spread (lead : List ℕ) (count : ℕ) (back : List ℕ) : Type 0 where

@@ -10,9 +10,9 @@ use lib.Bits.{bitAnd, bitOr}
 use lib.ListN.{length, getD, set, length-set}
 use Rattle.model.specs.Trace.{Trace, locks, task, object, isAcquire}
 use Rattle.model.specs.Relations.{held}
-use Rattle.laws.specs.Returning.{Covers, Leading}
+use Rattle.laws.specs.Returning.{Covers, Led, Leading}
 use Rattle.laws.proofs.Tests.{equal?, at-most?}
-use Rattle.pruning.specs.Linked.{isNested, Link, Led}
+use Rattle.pruning.specs.Linked.{isNested, Link}
 use Rattle.pruning.proofs.Links.{acquire-free}
 use Rattle.pruning.proofs.Spreads.{covers-none, covers-kept, covers-put}
 
@@ -88,4 +88,4 @@ module _ (σ : Trace) (a t guards : ℕ) (lead : List ℕ) where
 
   -- After the last nested acquire all is noted.
   pub noted-all : (e : ℕ) → Noted σ a t guards lead e → e ≡ 0 → Leading σ a t guards lead
-  noted-all e z q = record { long = z .long; leads = λ f h k. z .ended q .leads f h (omega arith) }
+  noted-all e z q = z .ended q

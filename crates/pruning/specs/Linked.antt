@@ -1,15 +1,13 @@
 -- The acquires that can stand in a pattern, as links from each event to the next of them and by the locks
--- that are held in blocks of 64 events, and the table of locks that lead to each other while it is filled.
-use Prim.Native.Nat.{ℕ, _/_, _≤_, _<_}
+-- that are held in blocks of 64 events.
+use Prim.Native.Nat.{ℕ, _/_, _≤_}
 use mathlib.Core.Path.{_≡_}
-use mathlib.Core.Logic.{_≢_}
-use mathlib.Core.Bool.{Bool, false, not, _&&_}
+use mathlib.Core.Bool.{Bool, not, _&&_}
 use mathlib.Core.List.{List}
 use lib.Dec.{T, eqb}
-use lib.Bits.{bitAnd}
 use lib.ListN.{length, getD}
 use Rattle.model.specs.Lists.{hasBit}
-use Rattle.model.specs.Trace.{Trace, locks, task, object, isAcquire}
+use Rattle.model.specs.Trace.{Trace, isAcquire}
 use Rattle.model.specs.Relations.{held}
 use Rattle.laws.specs.Sizes.{tableLength}
 use Rattle.laws.specs.Walk.{First}
@@ -36,9 +34,3 @@ pub record Marked (σ : Trace) (blocks : List ℕ) : Type 0 where
 -- A nested acquire, in a block where some acquire holds lock l.
 abbrev pub isNear : Trace → List ℕ → ℕ → ℕ → Bool
 isNear σ blocks l e = isNested σ e && hasBit (getD blocks (e / 64) 0) l
-
--- As `Leading` of laws, for the acquires before event `stop`.
-pub record Led (σ : Trace) (a stop t guards : ℕ) (lead : List ℕ) : Type 0 where
-  pub long : length lead ≡ locks
-  pub leads : (e : ℕ) → a < e → e < stop → T (isAcquire σ e) → task σ e ≢ t
-      → T (eqb (bitAnd guards (held σ e)) 0) → Covers (held σ e) (getD lead (object σ e) 0)

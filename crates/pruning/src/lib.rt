@@ -14,9 +14,9 @@ ghost use Rattle.model.specs.Calls.Check.{checkEvents};
 ghost use Rattle.laws.specs.Sizes.{recordsLength, tableLength};
 ghost use Rattle.laws.specs.Chain.{signature, fits, chainOf};
 ghost use Rattle.laws.specs.Walk.{First};
-ghost use Rattle.laws.specs.Returning.{Covers, Leading, Spread, Returning};
+ghost use Rattle.laws.specs.Returning.{Covers, Led, Leading, Spread, Returning};
 ghost use Rattle.deadlock.specs.Judged.{Holding};
-ghost use Rattle.pruning.specs.Linked.{isNested, Linked, Marked, isNear, Led};
+ghost use Rattle.pruning.specs.Linked.{isNested, Linked, Marked, isNear};
 
 // Event e where it is a nested acquire, and otherwise `later`.
 fn nested_or(records: &[u8], holding: &[u64], e: usize, later: u16) -> u16

@@ -14,9 +14,9 @@
 //     clist REC SIZE OUT            NUMBER OUTBYTES
 //     cverdict REC PATTERN          NUMBER
 //
-// Any other line is answered "bad request", and so is one of 180,000 bytes or more, whose rest is skipped. The
-// file stdin beside it has requests for the rows of 01, for each question and the edges of each argument, and
-// lines that are none; stdout has their answers.
+// Any other line is answered "bad request", and so is one of 180,000 bytes or more, whose rest is skipped.
+// In the crate's folder, stdin has requests for the rows of 01, for each question and the edges of each
+// argument, and lines that are none; stdout has their answers.
 mod answers;
 mod arguments;
 mod calls;
