@@ -10,10 +10,10 @@ use Rattle.model.specs.Lists.{filter, from}
 use Rattle.model.specs.Bytes.{numbers, isWhole}
 use Rattle.model.specs.Trace.{Trace, tasks, task, isEvent}
 use Rattle.model.specs.Relations.{held}
-use Rattle.model.specs.EventSet.{has}
-use Rattle.model.specs.Pattern.{isPattern, closureBefore, isDeadlock}
+use Rattle.model.specs.Pattern.{isPattern, isDeadlock}
 use Rattle.laws.specs.Sizes.{tableLength}
 use Rattle.laws.specs.Chain.{Chain, signature, fits}
+use Rattle.laws.specs.Frontier.{FrontOf}
 
 -- The table of held locks, with an entry for each event of the longest recording.
 pub record Holding (σ : Trace) (holding : List ℕ) : Type 0 where
@@ -32,7 +32,7 @@ judged σ p = cond (isWhole p && isPattern σ (numbers p)) (cond (isDeadlock σ 
 -- The frontier of the closure of the predecessors of the events of p.
 pub record Reached (σ : Trace) (p front : List ℕ) : Type 0 where
   pub long : length front ≡ tasks
-  pub members : (e : ℕ) → 1 ≤ e → e ≤ length σ → has (closureBefore σ p) e ≡ leb e (getD front (task σ e) 0)
+  pub members : FrontOf σ p front
 
 -- Event e where it is in the set of a frontier, and otherwise none.
 abbrev pub behindAt : Trace → List ℕ → ℕ → List ℕ

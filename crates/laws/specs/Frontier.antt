@@ -74,7 +74,12 @@ pub record Turned (σ : Trace) (front want : List ℕ) (t : ℕ) (front′ want�
   pub grows : (u : ℕ) → getD want u 0 ≤ getD want′ u 0
   pub passed : front′ ≡ set front t (getD want t 0)
 
--- The frontier of the closure of the predecessors of the events of p.
+-- The frontier's set is the closure of the predecessors of the events of p.
+abbrev pub FrontOf : Trace → List ℕ → List ℕ → Type 0
+FrontOf σ p front =
+    (e : ℕ) → 1 ≤ e → e ≤ length σ → has (closureBefore σ p) e ≡ leb e (getD front (task σ e) 0)
+
+-- It is, and the frontier may be advanced from there.
 pub record Before (σ : Trace) (p front latest : List ℕ) : Type 0 where
   pub settled : Settled σ front front latest
-  pub members : (e : ℕ) → 1 ≤ e → e ≤ length σ → has (closureBefore σ p) e ≡ leb e (getD front (task σ e) 0)
+  pub members : FrontOf σ p front
