@@ -10,6 +10,7 @@ pub mod front;
 pub mod gen;
 pub mod recording;
 pub mod search;
+pub mod timing;
 
 pub use calls::*;
 pub use recording::{Recording, Refusal};

@@ -60,7 +60,7 @@ module _ (σ : Trace) where
     pub other : task σ e ≢ task σ (c .first)
     pub apart : T (eqb (bitAnd (held σ (c .first)) (held σ e)) 0)
 
-  -- What fits a chain is so.
+  -- An event that fits a rooted chain does.
   pub fitting : (c : Chain) (e : ℕ) → Rooted σ c → fits (signature σ) c e ≡ true → Fitting c e
   fitting c e r f =
       let t : T (fits (signature σ) c e) = rw f tt in

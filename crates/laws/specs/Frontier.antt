@@ -79,7 +79,7 @@ abbrev pub FrontOf : Trace → List ℕ → List ℕ → Type 0
 FrontOf σ p front =
     (e : ℕ) → 1 ≤ e → e ≤ length σ → has (closureBefore σ p) e ≡ leb e (getD front (task σ e) 0)
 
--- It is, and the frontier may be advanced from there.
+-- A settled frontier, whose set is the closure of the predecessors of the events of p.
 pub record Before (σ : Trace) (p front latest : List ℕ) : Type 0 where
   pub settled : Settled σ front front latest
   pub members : FrontOf σ p front

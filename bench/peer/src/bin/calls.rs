@@ -1,5 +1,6 @@
 //! Every call, from the recording's bytes on: ours, the second implementation's and the peer's, in one run.
 use oracle::calls as peer;
+use oracle::timing::median;
 use second::calls as second;
 use std::hint::black_box;
 use std::time::Instant;
@@ -13,11 +14,6 @@ extern "C" {
     fn timed_schedule(r: *const u8, rl: usize, p: *const u8, pl: usize, s: *const u8, sl: usize) -> u64;
     fn hidzvoma_list(rec: *const u8, rec_len: usize, largest: u64, out: *mut u8, out_len: usize) -> u64;
     fn hidzvoma_verdict(rec: *const u8, rec_len: usize, pat: *const u8, pat_len: usize) -> u64;
-}
-
-fn median(xs: &mut [f64]) -> f64 {
-    xs.sort_by(|a, b| a.total_cmp(b));
-    xs[xs.len() / 2]
 }
 
 /// Microseconds of a call, by a batch of about five milliseconds.
@@ -48,77 +44,98 @@ fn line(name: &str, file: &str, calls: [&mut dyn FnMut() -> u64; 3]) {
     println!("| {name} | {file} | {a:.1} | {b:.1} | {c:.1} | {:.2} | {:.2} |", a / b, a / c);
 }
 
+/// The calls on a recording and numbers.
+fn numbered(rec: &[u8], file: &str, events: u64) {
+    let (r, n) = (rec.as_ptr(), rec.len());
+    line("check", file, [
+        &mut || unsafe { timed_check(r, n) },
+        &mut || second::check(rec).map_or(1, |_| 0),
+        &mut || peer::check(rec).map_or(1, |_| 0),
+    ]);
+    line("relations", file, [
+        &mut || unsafe { timed_relations(r, n, events / 2) },
+        &mut || second::relations(rec, events / 2).unwrap().held,
+        &mut || peer::relations(rec, events / 2).unwrap().held,
+    ]);
+    line("load", file, [
+        &mut || unsafe { timed_load(r, n, 1) },
+        &mut || second::load(rec, 1).unwrap(),
+        &mut || peer::load(rec, 1).unwrap(),
+    ]);
+}
+
+/// The closure of the last event.
+fn closure(rec: &[u8], file: &str, events: usize) {
+    let mut start = vec![0u8; events.div_ceil(8)];
+    start[(events - 1) / 8] |= 128 >> ((events - 1) % 8);
+    let mut set = start.clone();
+    let (mut set2, mut set3) = (start.clone(), start.clone());
+    line("close", file, [
+        &mut || {
+            set.copy_from_slice(&start);
+            unsafe { timed_close(rec.as_ptr(), rec.len(), set.as_mut_ptr(), set.len()) }
+        },
+        &mut || {
+            set2.copy_from_slice(&start);
+            second::close(rec, &mut set2).unwrap()
+        },
+        &mut || {
+            set3.copy_from_slice(&start);
+            peer::closure(rec, &mut set3).unwrap()
+        },
+    ]);
+}
+
+/// The listing of pairs: its bytes.
+fn listing(rec: &[u8], file: &str) -> Vec<u8> {
+    let mut out = vec![0u8; 65_536];
+    let (mut out2, mut out3) = (out.clone(), out.clone());
+    line("list, size 2", file, [
+        &mut || unsafe { hidzvoma_list(rec.as_ptr(), rec.len(), 2, out.as_mut_ptr(), out.len()) },
+        &mut || second::list(rec, 2, &mut out2).unwrap().bytes,
+        &mut || peer::listing(rec, 2, &mut out3).unwrap().bytes,
+    ]);
+    out.truncate(second::list(rec, 2, &mut out2).unwrap().bytes as usize);
+    out
+}
+
+/// The calls on a pattern, and on its witness.
+fn patterned(rec: &[u8], file: &str, pattern: &[u8]) {
+    let (r, n, p, k) = (rec.as_ptr(), rec.len(), pattern.as_ptr(), pattern.len());
+    line("verdict", file, [
+        &mut || unsafe { hidzvoma_verdict(r, n, p, k) },
+        &mut || second::c_verdict(rec, pattern),
+        &mut || peer::c_verdict(rec, pattern),
+    ]);
+    let mut out = vec![0u8; 65_536];
+    let (mut out2, mut out3) = (out.clone(), out.clone());
+    line("witness", file, [
+        &mut || unsafe { timed_witness(r, n, p, k, out.as_mut_ptr(), out.len()) },
+        &mut || second::witness(rec, pattern, &mut out2).unwrap().bytes,
+        &mut || peer::witness(rec, pattern, &mut out3).unwrap().unwrap(),
+    ]);
+    let bytes = peer::witness(rec, pattern, &mut out3).unwrap().unwrap() as usize;
+    let schedule = &out3[..bytes];
+    line("schedule", file, [
+        &mut || unsafe { timed_schedule(r, n, p, k, schedule.as_ptr(), bytes) },
+        &mut || second::schedule(rec, pattern, schedule).unwrap() as u64,
+        &mut || peer::checker(rec, pattern, schedule).unwrap() as u64,
+    ]);
+}
+
 fn main() {
     println!("| Call | Recording | ours, µs | second, µs | peer, µs | ours / second | ours / peer |");
     println!("|---|---|---|---|---|---|---|");
     for path in std::env::args().skip(1) {
         let rec = &std::fs::read(&path).unwrap()[..];
         let file = path.rsplit('/').next().unwrap();
-        let (r, n) = (rec.as_ptr(), rec.len());
-        let events = (n as u64 - 2) / 2;
-        let mut out = vec![0u8; 65_536];
-        let listed = second::list(rec, 2, &mut out).unwrap();
-        line("check", file, [
-            &mut || unsafe { timed_check(r, n) },
-            &mut || second::check(rec).map_or(1, |_| 0),
-            &mut || peer::check(rec).map_or(1, |_| 0),
-        ]);
-        line("relations", file, [
-            &mut || unsafe { timed_relations(r, n, events / 2) },
-            &mut || second::relations(rec, events / 2).unwrap().held,
-            &mut || peer::relations(rec, events / 2).unwrap().held,
-        ]);
-        line("load", file, [
-            &mut || unsafe { timed_load(r, n, 1) },
-            &mut || second::load(rec, 1).unwrap(),
-            &mut || peer::load(rec, 1).unwrap(),
-        ]);
-        let mut start = vec![0u8; (events as usize).div_ceil(8)];
-        start[(events as usize - 1) / 8] |= 128 >> ((events - 1) % 8);
-        let mut set = start.clone();
-        let (mut set2, mut set3) = (start.clone(), start.clone());
-        line("close", file, [
-            &mut || {
-                set.copy_from_slice(&start);
-                unsafe { timed_close(r, n, set.as_mut_ptr(), set.len()) }
-            },
-            &mut || {
-                set2.copy_from_slice(&start);
-                second::close(rec, &mut set2).unwrap()
-            },
-            &mut || {
-                set3.copy_from_slice(&start);
-                peer::closure(rec, &mut set3).unwrap()
-            },
-        ]);
-        let (mut out1, mut out2, mut out3) = (out.clone(), out.clone(), out.clone());
-        line("list, size 2", file, [
-            &mut || unsafe { hidzvoma_list(r, n, 2, out1.as_mut_ptr(), out1.len()) },
-            &mut || second::list(rec, 2, &mut out2).unwrap().bytes,
-            &mut || peer::listing(rec, 2, &mut out3).unwrap().bytes,
-        ]);
-        if listed.bytes == 0 {
-            continue;
+        let events = (rec.len() - 2) / 2;
+        numbered(rec, file, events as u64);
+        closure(rec, file, events);
+        let listed = listing(rec, file);
+        if !listed.is_empty() {
+            let middle = (listed.len() / 12) * 6 + 2;
+            patterned(rec, file, &listed[middle..middle + 4]);
         }
-        let middle = (listed.bytes as usize / 12) * 6 + 2;
-        let pattern = &out[middle..middle + 4];
-        let (p, k) = (pattern.as_ptr(), pattern.len());
-        line("verdict", file, [
-            &mut || unsafe { hidzvoma_verdict(r, n, p, k) },
-            &mut || second::c_verdict(rec, pattern),
-            &mut || peer::c_verdict(rec, pattern),
-        ]);
-        line("witness", file, [
-            &mut || unsafe { timed_witness(r, n, p, k, out1.as_mut_ptr(), out1.len()) },
-            &mut || second::witness(rec, pattern, &mut out2).unwrap().bytes,
-            &mut || peer::witness(rec, pattern, &mut out3).unwrap().unwrap(),
-        ]);
-        let bytes = peer::witness(rec, pattern, &mut out3).unwrap().unwrap() as usize;
-        let schedule = &out3[..bytes];
-        line("schedule", file, [
-            &mut || unsafe { timed_schedule(r, n, p, k, schedule.as_ptr(), bytes) },
-            &mut || second::schedule(rec, pattern, schedule).unwrap() as u64,
-            &mut || peer::checker(rec, pattern, schedule).unwrap() as u64,
-        ]);
     }
 }

@@ -1,5 +1,6 @@
 //! The whole listing call, from the recording's bytes to the written entries: the peer's and ours, in one run.
 use oracle::calls::{listing, Listed};
+use oracle::timing::median;
 use oracle::Refusal;
 use std::hint::black_box;
 use std::time::Instant;
@@ -20,11 +21,6 @@ fn number(answer: &Result<Listed, Refusal>) -> u64 {
     }
 }
 
-fn median(xs: &mut [f64]) -> f64 {
-    xs.sort_by(|a, b| a.total_cmp(b));
-    xs[xs.len() / 2]
-}
-
 /// Calls in a batch, so that one takes about ten milliseconds.
 fn batch(mut call: impl FnMut()) -> u32 {
     let t = Instant::now();
@@ -40,6 +36,34 @@ fn time(calls: u32, mut call: impl FnMut()) -> f64 {
     t.elapsed().as_secs_f64() * 1e6 / calls as f64
 }
 
+/// Prints a line of the table, after comparing the answers and all output bytes: the ratio's median.
+fn line(name: &str, rec: &[u8], size: u64, room: usize) -> f64 {
+    let (mut a, mut b) = (vec![0xA5u8; room], vec![0xA5u8; room]);
+    let answer = listing(rec, size, &mut a);
+    assert_eq!(ours(rec, size, &mut b), number(&answer), "{name} {size}");
+    assert!(a == b, "{name} {size}: bytes differ");
+    let told = match &answer {
+        Ok(l) => format!("{} patterns", l.patterns),
+        Err(x) => format!("refused {}", x.number),
+    };
+    let calls = batch(|| { let _ = black_box(listing(black_box(rec), size, &mut a)); });
+    let (mut x, mut y, mut r) = (Vec::new(), Vec::new(), Vec::new());
+    for _ in 0..9 {
+        let theirs = time(calls, || { let _ = black_box(listing(black_box(rec), size, &mut a)); });
+        let mine = time(calls, || { black_box(ours(black_box(rec), size, &mut b)); });
+        x.push(theirs);
+        y.push(mine);
+        r.push(mine / theirs);
+    }
+    let (px, py, pr) = (median(&mut x), median(&mut y), median(&mut r));
+    println!(
+        "| {name} | {size} | {room} | {told} | {px:.1} | {py:.1} | {pr:.2} ({:.2} to {:.2}) |",
+        r[0],
+        r[r.len() - 1]
+    );
+    pr
+}
+
 fn main() {
     println!("| Recording | Size | Output | Answer | peer, µs | ours, µs | ours / peer (least to most) |");
     println!("|---|---|---|---|---|---|---|");
@@ -47,36 +71,14 @@ fn main() {
     let mut worst: f64 = 0.0;
     for path in std::env::args().skip(1) {
         let rec = std::fs::read(&path).unwrap();
-        let name = path.rsplit('/').next().unwrap().to_string();
+        let name = path.rsplit('/').next().unwrap();
         for (size, room) in [(2, 65_536), (4, 65_536), (16, 65_536), (16, 2_000_000)] {
             if room > 65_536 && !name.starts_with("ring5") {
                 continue;
             }
-            let (mut a, mut b) = (vec![0xA5u8; room], vec![0xA5u8; room]);
-            let answer = listing(&rec, size, &mut a);
-            assert_eq!(ours(&rec, size, &mut b), number(&answer), "{name} {size}");
-            assert!(a == b, "{name} {size}: bytes differ");
-            let told = match &answer {
-                Ok(l) => format!("{} patterns", l.patterns),
-                Err(x) => format!("refused {}", x.number),
-            };
-            let calls = batch(|| { let _ = black_box(listing(black_box(&rec), size, &mut a)); });
-            let (mut x, mut y, mut r) = (Vec::new(), Vec::new(), Vec::new());
-            for _ in 0..9 {
-                let theirs = time(calls, || { let _ = black_box(listing(black_box(&rec), size, &mut a)); });
-                let mine = time(calls, || { black_box(ours(black_box(&rec), size, &mut b)); });
-                x.push(theirs);
-                y.push(mine);
-                r.push(mine / theirs);
-            }
-            let (px, py, pr) = (median(&mut x), median(&mut y), median(&mut r));
-            println!(
-                "| {name} | {size} | {room} | {told} | {px:.1} | {py:.1} | {pr:.2} ({:.2} to {:.2}) |",
-                r[0],
-                r[r.len() - 1]
-            );
-            logs.push(pr.ln());
-            worst = worst.max(pr);
+            let ratio = line(name, &rec, size, room);
+            logs.push(ratio.ln());
+            worst = worst.max(ratio);
         }
     }
     let mean = (logs.iter().sum::<f64>() / logs.len() as f64).exp();

@@ -2,6 +2,7 @@
 use oracle::front::verdict;
 use oracle::recording::Recording;
 use oracle::search::search;
+use oracle::timing::median;
 use std::hint::black_box;
 use std::time::Instant;
 
@@ -44,9 +45,26 @@ fn patterns(r: &Recording, most: usize) -> Vec<Vec<u16>> {
     out
 }
 
-fn median(mut xs: Vec<f64>) -> f64 {
-    xs.sort_by(|a, b| a.total_cmp(b));
-    xs[xs.len() / 2]
+/// Nanoseconds of a verdict, the peer's and ours: medians of nine batches, in turn.
+fn measure(rec: &[u8], r: &Recording, p: &[u16]) -> (f64, f64) {
+    let b = bytes(p);
+    assert_eq!(ours(rec, &b, 1) == 2, verdict(r, p).0, "{p:?}");
+    let rounds = 200u64;
+    let (mut x, mut y) = (Vec::new(), Vec::new());
+    for _ in 0..9 {
+        let t = Instant::now();
+        for _ in 0..rounds {
+            black_box(verdict(black_box(r), black_box(p)).0);
+        }
+        x.push(t.elapsed().as_nanos() as f64 / rounds as f64);
+        let t = Instant::now();
+        black_box(ours(black_box(rec), black_box(&b), 0));
+        let base = t.elapsed();
+        let t = Instant::now();
+        black_box(ours(black_box(rec), black_box(&b), rounds));
+        y.push((t.elapsed().as_nanos() as f64 - base.as_nanos() as f64) / rounds as f64);
+    }
+    (median(&mut x), median(&mut y))
 }
 
 fn main() {
@@ -58,24 +76,7 @@ fn main() {
         let Ok(r) = Recording::read(&rec) else { continue };
         let (mut theirs, mut mine, mut ratios) = (Vec::new(), Vec::new(), Vec::new());
         for p in patterns(&r, 24) {
-            let b = bytes(&p);
-            assert_eq!(ours(&rec, &b, 1) == 2, verdict(&r, &p).0, "{path}: {p:?}");
-            let rounds = 200u64;
-            let (mut x, mut y) = (Vec::new(), Vec::new());
-            for _ in 0..9 {
-                let t = Instant::now();
-                for _ in 0..rounds {
-                    black_box(verdict(black_box(&r), black_box(&p)).0);
-                }
-                x.push(t.elapsed().as_nanos() as f64 / rounds as f64);
-                let t = Instant::now();
-                black_box(ours(black_box(&rec), black_box(&b), 0));
-                let base = t.elapsed();
-                let t = Instant::now();
-                black_box(ours(black_box(&rec), black_box(&b), rounds));
-                y.push((t.elapsed().as_nanos() as f64 - base.as_nanos() as f64) / rounds as f64);
-            }
-            let (x, y) = (median(x), median(y));
+            let (x, y) = measure(&rec, &r, &p);
             theirs.push(x);
             mine.push(y);
             ratios.push(y / x);
@@ -90,10 +91,10 @@ fn main() {
         all.extend(ratios.iter().cloned());
         println!(
             "| {name} | {n} | {:.0} | {:.0} | {:.2} ({least:.2} to {most:.2}) |",
-            median(theirs),
-            median(mine),
-            median(ratios)
+            median(&mut theirs),
+            median(&mut mine),
+            median(&mut ratios)
         );
     }
-    println!("| all | {} | | | {:.2} |", all.len(), median(all.clone()));
+    println!("| all | {} | | | {:.2} |", all.len(), median(&mut all.clone()));
 }
