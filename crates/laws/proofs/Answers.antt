@@ -6,14 +6,15 @@ use mathlib.Core.Logic.{_≢_}
 use mathlib.Core.Bool.{true, false}
 use mathlib.Core.List.{List}
 use lib.Dec.{ltb}
-use borrow.Author.Tests.{eq-eqb, ne-eqb}
+use borrow.Author.Tests.{eq-eqb, ne-eqb, eqb-false}
 use Rattle.model.specs.Trace.{locks, isEvent}
 use Rattle.model.specs.Recording.{trace}
-use Rattle.model.specs.Calls.Questions.{knowsEvent, knowsLock}
+use Rattle.model.specs.Calls.Questions.{isAccepted, knowsEvent, knowsLock}
 use Rattle.model.specs.Calls.Check.{check}
 use Rattle.model.specs.Calls.Relations.{relationsRefusal, relations}
 use Rattle.model.specs.Calls.Load.{loadRefusal, load}
 use Rattle.laws.specs.Answered.{refusedRelations, eventRelations, refusedLoad, lockLoad}
+use Rattle.laws.proofs.Tests.{decided}
 
 -- ---- relations
 
@@ -53,3 +54,10 @@ module _ (b : List ℕ) (l : ℕ) where
     pub load-answer : ltb l locks ≡ true → load b l ≡ lockLoad (trace b) l
     unfolding load loadRefusal knowsLock
     load-answer y = rw (eq-eqb (check b .refusal) 0 c, y)
+
+  -- A load that is not refused is that of its lock.
+  pub load-accepted : load b l .refusal ≡ 0 → load b l ≡ lockLoad (trace b) l
+  unfolding load
+  load-accepted e =
+      decided (isAccepted (loadRefusal b l)) (λ y. rw y)
+      (λ n. absurd (eqb-false (loadRefusal b l .refusal) 0 n (rw n at e)))

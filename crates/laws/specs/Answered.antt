@@ -8,10 +8,9 @@ use Rattle.model.specs.declared.Load.{Load}
 use Rattle.model.specs.declared.Listed.{Listed}
 use Rattle.model.specs.declared.Verdict.{Verdict}
 use Rattle.model.specs.declared.Witness.{Witness}
-use Rattle.model.specs.Lists.{filter, from}
 use Rattle.model.specs.Trace.{Trace}
 use Rattle.model.specs.Relations.{predecessor, writer, matching, held}
-use Rattle.model.specs.Calls.Load.{isHeldAfter, percent}
+use Rattle.model.specs.Calls.Load.{heldEvents, percent}
 
 -- The relations call, refused.
 abbrev pub refusedRelations : ℕ → ℕ → Relations
@@ -46,7 +45,7 @@ abbrev pub lockLoad : Trace → ℕ → Load
 lockLoad σ l = record {
   refusal = 0;
   event = 0;
-  percent = percent (length (filter (isHeldAfter σ l) (from 1 (length σ)))) (length σ);
+  percent = percent (heldEvents σ l) (length σ);
 }
 
 -- The listing call, refused.

@@ -2,10 +2,9 @@
 ghost use Prim.Native.Nat.{_+_, _*_, _/_, _<_, _≤_};
 ghost use mathlib.Core.Path.{_≡_};
 ghost use lib.ListN.{length};
-ghost use Rattle.model.specs.Lists.{filter, from};
 ghost use Rattle.model.specs.Recording.{decodeAll};
 ghost use Rattle.model.specs.Calls.Check.{checkEvents};
-ghost use Rattle.model.specs.Calls.Load.{isHeldAfter, percent, load};
+ghost use Rattle.model.specs.Calls.Load.{heldEvents, percent, load};
 ghost use Rattle.laws.specs.Sizes.{recordsLength, tableLength};
 ghost use Rattle.laws.specs.Walked.{Holder};
 
@@ -34,8 +33,7 @@ fn count_held(records: &[u8], lock: u64) -> u64
     requires { ⌜ (length (now records) ≤ recordsLength)
         × (checkEvents (decodeAll (now records)) .refusal ≡ 0) ⌝ }
     ensures { λ r. ⌜ (r < tableLength)
-        × (r ≡ length (filter (isHeldAfter (decodeAll (now (records .entry))) lock)
-        (from 1 (length (decodeAll (now (records .entry))))))) ⌝ }
+        × (r ≡ heldEvents (decodeAll (now (records .entry))) lock) ⌝ }
 {
     let mut holder = 0u8;
     let mut held = 0;
@@ -50,7 +48,8 @@ fn count_held(records: &[u8], lock: u64) -> u64
     held
 }
 
-// 100 × h / n, rounded to nearest, halves up; 0 for no events.
+// 100 × h / n, rounded to nearest, halves to even; 0 for no events. The rest of the division decides between
+// the quotient and the next number.
 fn percentage(h: u64, n: u64) -> u64
     requires { ⌜ (h < tableLength) × (n < tableLength) ⌝ }
     ensures { λ r. ⌜ r ≡ percent h n ⌝ }
@@ -58,7 +57,18 @@ fn percentage(h: u64, n: u64) -> u64
     if n == 0 {
         return 0;
     }
-    (200 * h + n) / (2 * n)
+    let quotient = 100 * h / n;
+    let rest = 100 * h % n;
+    if 2 * rest < n {
+        return quotient;
+    }
+    if n < 2 * rest {
+        return quotient + 1;
+    }
+    if quotient % 2 == 0 {
+        return quotient;
+    }
+    quotient + 1
 }
 
 // The load of one lock: question 14, then the per cent of events after which it is held.

@@ -3,12 +3,13 @@
 use Prim.Native.Nat.{ℕ, _+_, _*_}
 use mathlib.Core.Path.{_≡_, refl}
 use mathlib.Core.List.{List, [], _∷_, _++_}
+use lib.ListN.{replicate}
 use lib.Count.{ones, onesIn}
 use Rattle.model.specs.declared.Relations.{Relations}
 use Rattle.model.specs.Bytes.{encode}
 use Rattle.model.specs.Calls.Relations.{relations, relationsRefusal}
 use Rattle.model.specs.Calls.Close.{close, closeOut}
-use Rattle.model.specs.Calls.Load.{load}
+use Rattle.model.specs.Calls.Load.{percent, load}
 use Rattle.model.specs.Calls.Entries.{entryNumber, listEntry, verdictEntry}
 use Rattle.model.specs.Opened.{opened}
 use Rattle.model.specs.Recordings.{rowA, rowC, rowD, rowF, recording, by, acq, rel, wr}
@@ -32,6 +33,10 @@ keeping =
     recording
     (by 0 (acq 63 ∷ []) ++ by 1 (acq 0 ∷ wr 0 ∷ rel 0 ∷ []) ++ by 0 (wr 0 ∷ acq 0 ∷ rel 0 ∷ []))
 
+-- Lock 0 is held after three of eight events.
+abbrev pub three-of-eight : List ℕ
+three-of-eight = recording (by 0 (acq 0 ∷ wr 0 ∷ wr 0 ∷ rel 0 ∷ replicate 4 (wr 0)))
+
 -- All samples of answers.
 pub record SampleAnswers : Type 0 where
   -- Relations of an acquire, a release, a read, and an acquire that has no match.
@@ -48,6 +53,22 @@ pub record SampleAnswers : Type 0 where
   pub load-empty : load (0x10 ∷ 0x00 ∷ []) 0 ≡ record { refusal = 0; event = 0; percent = 0 }
   pub load-kept : load (0x10 ∷ 0x01 ∷ 0x80 ∷ 0x3F ∷ []) 63 ≡ record { refusal = 0; event = 0; percent = 100 }
   pub load-nearest : load keeping 0 ≡ record { refusal = 0; event = 0; percent = 43 }
+  -- 37.5, of an odd whole per cent.
+  pub load-half : load three-of-eight 0 ≡ record { refusal = 0; event = 0; percent = 38 }
+  -- Halves go to the even per cent: 0.5, 1.5, 12.5, 99.5.
+  pub half-0 : percent 1 200 ≡ 0
+  pub half-1 : percent 3 200 ≡ 2
+  pub half-12 : percent 1 8 ≡ 12
+  pub half-99 : percent 199 200 ≡ 100
+  -- Just below a half and just above one, in a long recording and in one of three events, where no rest is the
+  -- half: the odd one below and the odd one above.
+  pub below-half : percent 1699 4094 ≡ 41
+  pub above-half : percent 348 4094 ≡ 9
+  pub one-third : percent 1 3 ≡ 33
+  pub two-thirds : percent 2 3 ≡ 67
+  -- Every event, and none.
+  pub every-event : percent 4095 4095 ≡ 100
+  pub no-event : percent 0 4095 ≡ 0
   -- The entries for C.
   pub list-bytes : listEntry rowF 3 8 ≡ 8
   pub list-refused : listEntry (0x10 ∷ 0x01 ∷ 0x80 ∷ 0x40 ∷ []) 0 0 ≡ 2 * (65536 * 4 + 1) + 1
@@ -69,6 +90,17 @@ sampleAnswers = record {
   load-empty = refl;
   load-kept = refl;
   load-nearest = refl;
+  load-half = refl;
+  half-0 = refl;
+  half-1 = refl;
+  half-12 = refl;
+  half-99 = refl;
+  below-half = refl;
+  above-half = refl;
+  one-third = refl;
+  two-thirds = refl;
+  every-event = refl;
+  no-event = refl;
   list-bytes = refl;
   list-refused = refl;
   verdict-deadlock = refl;

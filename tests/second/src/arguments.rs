@@ -36,6 +36,29 @@ pub fn lock(random: &mut Random, recording: &Recording) -> u64 {
     }
 }
 
+/// A number n of events for a load, mostly one that has exact halves, which are at multiples of 8 only.
+pub fn event_count(random: &mut Random) -> usize {
+    match random.below(10) {
+        0..=5 => random.pick(&[8, 16, 24, 40, 56, 72, 200, 400]),
+        6 => random.pick(&[1000, 4000, 4093, 4095]),
+        _ => random.between(1, 300),
+    }
+}
+
+/// A number h of those n events: mostly one with 100 × h / n at a half or, where none is, nearest to one;
+/// else nearest to a half without being one, or any.
+pub fn held_count(random: &mut Random, n: usize) -> usize {
+    let from_half = |h: usize| (200 * h % (2 * n)).abs_diff(n);
+    let least = match random.below(10) {
+        0..=6 => 0,
+        7..=8 => 1,
+        _ => return random.between(0, n),
+    };
+    let nearest = (0..=n).map(from_half).filter(|&distance| distance >= least).min();
+    let choices: Vec<usize> = (0..=n).filter(|&h| Some(from_half(h)) == nearest).collect();
+    random.pick(&choices)
+}
+
 /// A set of events: few members or many, at times of a wrong length or with bits after event n.
 pub fn set(random: &mut Random, recording: &Recording) -> Vec<u8> {
     let n = recording.count();

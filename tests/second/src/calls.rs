@@ -5,6 +5,7 @@ use crate::patterns::{closure_of_predecessors, is_deadlock, is_pattern, Search};
 use crate::recording::{bytes_from, numbers_from, Event, Operation, Recording, Refusal};
 use crate::relations::Relations;
 use crate::schedule::Schedule;
+use std::cmp::Ordering;
 
 /// 01: "A success has number 0 and event 0, which is all that the check of a recording returns."
 pub fn check(recording: &[u8]) -> Result<(), Refusal> {
@@ -21,18 +22,31 @@ pub fn relations(recording: &[u8], event: u64) -> Result<Relations, Refusal> {
 }
 
 /// 01: "h counts the events after which some task holds it; the result is 100 × h / n, rounded to
-/// nearest, halves up; 0 if n = 0."
+/// nearest, [...]; 0 if n = 0."; 02, job 8: "The lamp trade's load sheets moved to rounding halves to
+/// the even per cent. Load follows".
 pub fn load(recording: &[u8], lock: u64) -> Result<u64, Refusal> {
+    let (h, n) = held_of_all(recording, lock)?;
+    Ok(if n == 0 { 0 } else { rounded_per_cent(h, n) })
+}
+
+/// 100 × h / n, "rounded to nearest", with "rounding halves to the even per cent"; n is not 0.
+fn rounded_per_cent(h: u64, n: u64) -> u64 {
+    let (whole, left_over) = (100 * h / n, 100 * h % n);
+    match (2 * left_over).cmp(&n) {
+        Ordering::Less => whole,
+        Ordering::Greater => whole + 1,
+        Ordering::Equal if whole % 2 == 0 => whole,
+        Ordering::Equal => whole + 1,
+    }
+}
+
+/// The numbers h and n of a load: the events after which some task holds the lock, and all events.
+pub fn held_of_all(recording: &[u8], lock: u64) -> Result<(u64, u64), Refusal> {
     let recording = Recording::read(recording)?;
     if lock > 63 {
         return Err(Refusal::without_event(14));
     }
-    let n = recording.count() as u64;
-    if n == 0 {
-        return Ok(0);
-    }
-    let h = events_with_lock_held(&recording, lock as usize);
-    Ok((200 * h + n) / (2 * n))
+    Ok((events_with_lock_held(&recording, lock as usize), recording.count() as u64))
 }
 
 /// "h counts the events after which some task holds it"

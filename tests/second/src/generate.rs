@@ -1,14 +1,15 @@
 //! Random requests over all calls, recordings, arguments and refusals.
 
-use crate::arguments::{changed_pattern, event, false_pattern, lock, pattern_with_verdict, room, set, size};
+use crate::arguments::{changed_pattern, event, event_count, false_pattern, held_count, lock};
+use crate::arguments::{pattern_with_verdict, room, set, size};
 use crate::calls::{self, Listed};
 use crate::damage::damage;
 use crate::patterns::closure_of_predecessors;
 use crate::proposals::schedule;
 use crate::protocol::hexadecimal;
 use crate::random::Random;
-use crate::recording::{bytes_from, encode, Recording, Refusal};
-use crate::shapes::{any_events, Class};
+use crate::recording::{bytes_from, encode, Event, Recording, Refusal, LOCKS};
+use crate::shapes::{any_events, events_with_load, Class};
 
 /// The most bytes that are lent.
 const MOST_ROOM: usize = 65_536;
@@ -56,7 +57,13 @@ fn class(random: &mut Random) -> Class {
 
 /// A recording, damaged once or more in so many per cent of the cases.
 fn scene(random: &mut Random, class: Class, damaged: usize) -> Scene {
-    let bytes = encode(&any_events(random, class));
+    let events = any_events(random, class);
+    scene_of(random, &events, damaged)
+}
+
+/// The recording of these events, damaged once or more in so many per cent of the cases.
+fn scene_of(random: &mut Random, events: &[Event], damaged: usize) -> Scene {
+    let bytes = encode(events);
     let recording = Recording::read(&bytes).unwrap_or_else(|refusal| panic!("ill-formed: {refusal:?}"));
     let mut sent = bytes.clone();
     while random.chance(damaged) {
@@ -80,9 +87,22 @@ fn relations(random: &mut Random) -> String {
     format!("relations {} {}", scene.sent, event(random, scene.recording.count()))
 }
 
+/// A load of any recording, or of one made for its load.
 fn load(random: &mut Random) -> String {
+    if random.chance(50) {
+        return chosen_load(random);
+    }
     let scene = any_scene(random);
     format!("load {} {}", scene.sent, lock(random, &scene.recording))
+}
+
+/// A load that is mostly at a half per cent or next to one.
+fn chosen_load(random: &mut Random) -> String {
+    let n = event_count(random);
+    let h = held_count(random, n);
+    let lock = random.below(LOCKS);
+    let events = events_with_load(random, lock, h, n);
+    format!("load {} {}", scene_of(random, &events, 4).sent, lock)
 }
 
 fn close(random: &mut Random) -> String {

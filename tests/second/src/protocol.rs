@@ -39,6 +39,15 @@ pub fn answer_line(line: &str) -> String {
     answer(line).map_or(BAD_REQUEST.to_string(), |answer| answer.line)
 }
 
+/// The numbers h and n of the line's load, or none where the line is no load or a refused one.
+pub fn held_of_all(line: &str) -> Option<(u64, u64)> {
+    let words: Vec<&str> = line.split(' ').collect();
+    match words[..] {
+        ["load", rec, lock] => calls::held_of_all(&bytes(rec)?, number(lock)?).ok(),
+        _ => None,
+    }
+}
+
 /// Bytes as lowercase hexadecimal digits, `-` for none.
 pub fn hexadecimal(bytes: &[u8]) -> String {
     if bytes.is_empty() {

@@ -102,13 +102,13 @@ struct Walk {
     stay: usize,
 }
 
-/// Tasks take free locks and release their own at random, the lock order kept but for some inversions.
-fn walk(random: &mut Random, limit: usize) -> Vec<Event> {
+/// A way to walk for a recording of about so many events.
+fn any_walk(random: &mut Random, limit: usize) -> Walk {
     let short = limit < 100;
     let few = short && random.chance(60);
     let invert = if short { random.pick(&[0, 5, 30, 60, 100]) } else { random.pick(&[0, 2, 6]) };
     let deep = short || invert == 0;
-    let walk = Walk {
+    Walk {
         tasks: if few { random.between(2, 5) } else { random.between(1, TASKS) },
         locks: if few { random.between(2, 5) } else { random.between(1, LOCKS) },
         variables: random.between(1, 8),
@@ -116,7 +116,12 @@ fn walk(random: &mut Random, limit: usize) -> Vec<Event> {
         invert,
         accesses: random.pick(&[0, 10, 40, 70]),
         stay: random.pick(&[30, 70, 90]),
-    };
+    }
+}
+
+/// Tasks take free locks and release their own at random, the lock order kept but for some inversions.
+fn walk(random: &mut Random, limit: usize) -> Vec<Event> {
+    let walk = any_walk(random, limit);
     let mut builder = Builder::new();
     let mut held: Vec<Vec<usize>> = vec![Vec::new(); walk.tasks];
     let mut task = 0;
@@ -128,6 +133,43 @@ fn walk(random: &mut Random, limit: usize) -> Vec<Event> {
         builder.take(event);
     }
     builder.events
+}
+
+/// A recording of n events of which h leave this lock held, by one task or another, while tasks walk with
+/// the other locks.
+pub fn events_with_load(random: &mut Random, lock: usize, h: usize, n: usize) -> Vec<Event> {
+    let walk = any_walk(random, n);
+    let mut builder = Builder::new();
+    let mut others: Vec<Vec<usize>> = vec![Vec::new(); walk.tasks];
+    let (mut task, mut holder) = (0, None);
+    for held in held_after(random, h, n) {
+        if !random.chance(walk.stay) {
+            task = random.below(walk.tasks);
+        }
+        // No step of the walk takes the lock.
+        builder.free[lock] = false;
+        let event = match holder {
+            None if held => acquire(task, lock),
+            Some(holder) if !held => release(holder, lock),
+            _ => step(random, &walk, task, &mut others[task], &builder),
+        };
+        builder.take(event);
+        holder = held.then_some(holder.unwrap_or(task));
+    }
+    builder.events
+}
+
+/// Whether a lock is held after each of n events, as it is after h of them, in few long turns or many.
+fn held_after(random: &mut Random, h: usize, n: usize) -> Vec<bool> {
+    let turns = random.pick(&[3, 20, 60]);
+    let (mut held, mut held_left) = (false, h);
+    let mut after = Vec::new();
+    for left in (1..=n).rev() {
+        held = held_left == left || held_left > 0 && held != random.chance(turns);
+        held_left -= usize::from(held);
+        after.push(held);
+    }
+    after
 }
 
 /// One event of a walk by a task that holds these locks, the newest last.
@@ -264,5 +306,21 @@ fn rename(random: &mut Random, events: &mut [Event]) {
         event.task = tasks[event.task];
         event.object =
             if event.uses_lock() { locks[event.object] } else { (event.object + shift) % VARIABLES };
+    }
+}
+
+#[cfg(test)]
+mod tests {
+    use super::{events_with_load, Random};
+    use crate::calls::held_of_all;
+    use crate::recording::encode;
+
+    #[test]
+    fn loads_are_as_chosen() {
+        let mut random = Random::new(1);
+        for (h, n) in [(0, 0), (0, 1), (1, 1), (1, 8), (7, 8), (8, 8), (27, 200), (4094, 4095)] {
+            let recording = encode(&events_with_load(&mut random, 63, h, n));
+            assert_eq!(held_of_all(&recording, 63), Ok((h as u64, n as u64)));
+        }
     }
 }

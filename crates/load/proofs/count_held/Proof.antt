@@ -8,7 +8,7 @@ use borrow.Author.Needs.{needs}
 use lib.ListN.{length}
 use Rattle.model.specs.Lists.{filter, from}
 use Rattle.model.specs.Recording.{decodeAll}
-use Rattle.model.specs.Calls.Load.{isHeldAfter}
+use Rattle.model.specs.Calls.Load.{isHeldAfter, heldEvents}
 use Rattle.laws.specs.Walked.{Holder}
 use Rattle.laws.proofs.Trace.{decodeAll-length}
 use Rattle.laws.proofs.Holders.{holder-start}
@@ -64,6 +64,7 @@ loop-again c =
     )
 
 returns : tie.Need-returns Inv-loop μ-loop
+unfolding heldEvents
 returns c =
     let s = c .before .before .before in
     let k = c .before .loop in

@@ -5,11 +5,10 @@ use borrow.Author.Needs.{needs}
 use borrow.Author.Tests.{lt-ltb, le-ltb}
 use lib.ListN.{length}
 use Rattle.model.specs.declared.Outcome.{Outcome}
-use Rattle.model.specs.Lists.{filter, from}
 use Rattle.model.specs.Trace.{locks}
 use Rattle.model.specs.Recording.{trace}
 use Rattle.model.specs.Calls.Check.{check}
-use Rattle.model.specs.Calls.Load.{isHeldAfter}
+use Rattle.model.specs.Calls.Load.{heldEvents}
 use Rattle.laws.specs.Answered.{refusedLoad}
 use Rattle.laws.proofs.Questions.{check-bytes, check-count, part-trace, part-length, part-accepted}
 use Rattle.laws.proofs.Answers.{load-unchecked, load-unknown, load-answer}
@@ -71,8 +70,7 @@ returns-3 c =
     let ok = accepted (c .before .before .before .before .before) in
     let n : c .before .before .before .event-count .result ≡ length (trace b) =
     c .before .before .before .event-count .ensures .1 ∙ sym (check-count b ok) in
-    let h : c .before .count-held .result ≡ length (filter (isHeldAfter (trace b) (s .args .lock))
-    (from 1 (length (trace b)))) =
+    let h : c .before .count-held .result ≡ heldEvents (trace b) (s .args .lock) =
     rw (part-trace b) at (c .before .count-held .ensures .1) in
     rw (c .percentage .ensures, n, h)
     (sym (load-answer b (s .args .lock) ok (lt-ltb (s .args .lock) locks

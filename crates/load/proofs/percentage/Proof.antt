@@ -1,30 +1,105 @@
--- `load::percentage` meets its contract: half of the divisor is added, so that halves go up. Assumes nothing.
+-- `load::percentage` meets its contract: each branch is a case of the rounding, and quotient and rest are small.
+-- Assumes nothing.
+use Prim.Native.Nat.{_+_, _*_, _/_, _%_, _≤_, _<_}
+use mathlib.Core.Path.{_≡_}
+use mathlib.Core.Bool.{cond}
+use lib.Dec.{eqb}
+use native.Mathlib.Nat.{mod-lt, div-le-self}
+use native.Mathlib.Omega.{arith}
 use borrow.Author.Needs.{needs}
-use borrow.Author.Tests.{eq-eqb, ne-eqb}
+use borrow.Author.Tests.{eq-eqb, ne-eqb, lt-ltb, le-ltb}
 use Rattle.model.specs.Calls.Load.{percent}
 use Rattle.load.proofs.percentage.Statement.{statement}
 use Rattle.load.proofs.percentage.Tie as tie
+
+-- The quotient is at most what is divided, and the rest below the divisor.
+small : (c : tie.Else1) → let a = c .before .args in
+    (100 * a .h / a .n ≤ 100 * a .h) × (100 * a .h % a .n < a .n)
+small c = let a = c .before .args in (div-le-self (100 * a .h) (a .n), mod-lt (100 * a .h) (omega arith))
 
 returns : tie.Need-returns
 unfolding percent
 returns c = rw (eq-eqb (c .before .args .n) 0 (c .if1 .taken))
 
-mul-result : tie.Need-mul-result
-mul-result c = search needs
+mul-quotient : tie.Need-mul-quotient
+mul-quotient c = search needs
 
-add-result : tie.Need-add-result
-add-result c = search needs
+div-quotient : tie.Need-div-quotient
+div-quotient c = search needs
 
-mul-result-2 : tie.Need-mul-result-2
-mul-result-2 c = search needs
+mul-rest : tie.Need-mul-rest
+mul-rest c = search needs
 
-div-result : tie.Need-div-result
-div-result c = search needs
+rem-rest : tie.Need-rem-rest
+rem-rest c = search needs
+
+mul-if2 : tie.Need-mul-if2
+mul-if2 c = omega (arith, small c)
 
 returns-2 : tie.Need-returns-2
 unfolding percent
-returns-2 c = rw (ne-eqb (c .before .args .n) 0 (c .if1 .left))
+returns-2 c =
+    let a = c .before .before .args in
+    let r = 100 * a .h % a .n in
+    rw (ne-eqb (a .n) 0 (c .before .if1 .left), lt-ltb (2 * r) (a .n) (c .if2 .taken))
+
+mul-if3 : tie.Need-mul-if3
+mul-if3 c = omega (arith, small (c .before))
+
+add-result : tie.Need-add-result
+add-result c = omega (arith, small (c .before .before))
+
+returns-3 : tie.Need-returns-3
+unfolding percent
+returns-3 c =
+    let a = c .before .before .before .args in
+    let r = 100 * a .h % a .n in
+    rw (
+      ne-eqb (a .n) 0 (c .before .before .if1 .left),
+      le-ltb (2 * r) (a .n) (c .before .if2 .left),
+      lt-ltb (a .n) (2 * r) (c .if3 .taken),
+    )
+
+-- At the half, the even one of quotient and next number.
+halved : (c : tie.Else3) → let a = c .before .before .before .args in
+    percent (a .h) (a .n) ≡ cond (eqb (100 * a .h / a .n % 2) 0) (100 * a .h / a .n) (100 * a .h / a .n + 1)
+unfolding percent
+halved c =
+    let a = c .before .before .before .args in
+    let r = 100 * a .h % a .n in
+    rw (
+      ne-eqb (a .n) 0 (c .before .before .if1 .left),
+      le-ltb (2 * r) (a .n) (c .before .if2 .left),
+      le-ltb (a .n) (2 * r) (c .if3 .left),
+    )
+
+returns-4 : tie.Need-returns-4
+returns-4 c =
+    let a = c .before .before .before .before .args in
+    rw (halved (c .before), eq-eqb (100 * a .h / a .n % 2) 0 (c .if4 .taken))
+
+add-result-2 : tie.Need-add-result-2
+add-result-2 c = omega (arith, small (c .before .before .before))
+
+returns-5 : tie.Need-returns-5
+returns-5 c =
+    let a = c .before .before .before .before .args in
+    rw (halved (c .before), ne-eqb (100 * a .h / a .n % 2) 0 (c .if4 .left))
 
 pub percentage-spec : {M : Type 1} → statement M
 percentage-spec =
-    tie.close (tie.spec returns mul-result add-result mul-result-2 div-result returns-2)
+    tie.close
+    (tie.spec
+    returns
+    mul-quotient
+    div-quotient
+    mul-rest
+    rem-rest
+    mul-if2
+    returns-2
+    mul-if3
+    add-result
+    returns-3
+    returns-4
+    add-result-2
+    returns-5)

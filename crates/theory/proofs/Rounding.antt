@@ -1,0 +1,76 @@
+-- Request 8 holds: the rest of the division decides between the quotient and the next number, and of two
+-- neighbours at the half only one is even. Assumes nothing.
+use Prim.Native.Nat.{ℕ, _+_, _-_, _*_, _/_, _%_, _≤_, _<_}
+use mathlib.Core.Path.{_≡_}
+use mathlib.Core.Logic.{_≢_, ⊎-elim}
+use native.Mathlib.Nat.{mod-lt, div-add-mod', add-mul, one-mul, mul-le-mul-right}
+use native.Mathlib.Omega.{arith}
+use lib.Dec.{eqb, ltb}
+use lib.ListN.{length}
+use borrow.Author.Tests.{eq-eqb, ne-eqb, eqb-false}
+use Rattle.model.specs.Recording.{trace}
+use Rattle.model.specs.Calls.Load.{heldEvents, percent}
+use Rattle.laws.proofs.Tests.{decided, at-most?, tests}
+use Rattle.laws.proofs.Answers.{load-accepted}
+use Rattle.theory.specs.Rounding.{Rounded, Request8}
+
+-- A product with the next number.
+next-mul : (q n : ℕ) → (q + 1) * n ≡ q * n + n
+next-mul q n = rw (add-mul q 1 n, one-mul n)
+
+module _ {h n : ℕ} (q r : ℕ) (split : q * n + r ≡ 100 * h) (rest : r < n) where
+  -- The quotient is rounded where the rest is at most the half, and it is even at the half;
+  down : 2 * r ≤ n → (2 * r ≡ n → q % 2 ≡ 0) → Rounded h n q
+  down a even = record { nearest = omega arith; even = λ e. even (omega arith) }
+
+  -- the next number where the rest is at least the half, and the quotient is odd at the half.
+  up : n ≤ 2 * r → (2 * r ≡ n → q % 2 ≢ 0) → Rounded h n (q + 1)
+  up a odd = record {
+    nearest = omega (arith, next-mul q n);
+    even = λ e. let o = odd (omega (arith, next-mul q n)) in omega arith;
+  }
+
+module _ (h n : ℕ) (some : n ≢ 0) where
+  -- The per cent is rounded, wherever the rest lies;
+  percent-rounded : Rounded h n (percent h n)
+  unfolding percent
+  percent-rounded =
+      let q = 100 * h / n in
+      let r = 100 * h % n in
+      let split : q * n + r ≡ 100 * h = div-add-mod' (100 * h) n in
+      let rest : r < n = mod-lt (100 * h) (omega arith) in
+      rw (ne-eqb n 0 some)
+      (decided (ltb (2 * r) n) (λ y. rw y (down q r split rest (omega tests) (λ e. absurd (omega tests))))
+      (λ y. rw y (decided (ltb n (2 * r)) (λ z. rw z (up q r split rest (omega tests) (λ e. absurd (omega tests))))
+      (λ z. rw z (decided (eqb (q % 2) 0) (λ w. rw w (down q r split rest (omega tests) (λ e. omega tests)))
+      (λ w. rw w (up q r split rest (omega tests) (λ e. eqb-false (q % 2) 0 w))))))))
+
+  -- of two numbers that are rounded neither is larger, for they would be neighbours, both at the half;
+  rounded-le : (p p′ : ℕ) → Rounded h n p → Rounded h n p′ → p′ ≤ p
+  rounded-le p p′ y z = ⊎-elim (λ a. a) (λ a. absurd (apart a)) (at-most? p′ p)
+    where
+      apart : p < p′ → ⊥
+      apart a =
+          let one : (p + 1) * n ≤ p′ * n = mul-le-mul-right n (omega arith) in
+          let even = y .even (omega (arith, next-mul p n)) in
+          let even′ = z .even (omega (arith, next-mul p n)) in
+          let two : (p + 1 + 1) * n ≤ p′ * n = mul-le-mul-right n (omega arith) in
+          omega (arith, next-mul p n, next-mul (p + 1) n)
+
+  -- so no other number is.
+  rounded-once : (p : ℕ) → Rounded h n p → p ≡ percent h n
+  rounded-once p z =
+      omega (arith, rounded-le p (percent h n) z percent-rounded, rounded-le (percent h n) p percent-rounded z)
+
+-- Request 8.
+pub request8 : Request8
+unfolding percent
+request8 b l e =
+    let h = heldEvents (trace b) l in
+    let n = length (trace b) in
+    let answer = load-accepted b l e in
+    record {
+      rounded = λ some. rw answer (percent-rounded h n some);
+      only = λ some p z. rw answer (rounded-once h n some p z);
+      empty = λ none. rw (answer, eq-eqb n 0 none);
+    }
