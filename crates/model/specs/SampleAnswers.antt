@@ -60,8 +60,8 @@ pub record SampleAnswers : Type 0 where
   pub half-1 : percent 3 200 ≡ 2
   pub half-12 : percent 1 8 ≡ 12
   pub half-99 : percent 199 200 ≡ 100
-  -- Just below a half and just above one, in a long recording and in one of three events, where no rest is the
-  -- half: the odd one below and the odd one above.
+  -- Just below a half and just above one, of many events and of three, whose half is no whole number; each
+  -- goes to the odd per cent.
   pub below-half : percent 1699 4094 ≡ 41
   pub above-half : percent 348 4094 ≡ 9
   pub one-third : percent 1 3 ≡ 33

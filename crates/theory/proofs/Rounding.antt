@@ -39,11 +39,13 @@ module _ (h n : ℕ) (some : n ≢ 0) where
       let r = 100 * h % n in
       let split : q * n + r ≡ 100 * h = div-add-mod' (100 * h) n in
       let rest : r < n = mod-lt (100 * h) (omega arith) in
+      let lower = down {h = h} q r split rest in
+      let upper = up {h = h} q r split rest in
       rw (ne-eqb n 0 some)
-      (decided (ltb (2 * r) n) (λ y. rw y (down q r split rest (omega tests) (λ e. absurd (omega tests))))
-      (λ y. rw y (decided (ltb n (2 * r)) (λ z. rw z (up q r split rest (omega tests) (λ e. absurd (omega tests))))
-      (λ z. rw z (decided (eqb (q % 2) 0) (λ w. rw w (down q r split rest (omega tests) (λ e. omega tests)))
-      (λ w. rw w (up q r split rest (omega tests) (λ e. eqb-false (q % 2) 0 w))))))))
+      (decided (ltb (2 * r) n) (λ y. rw y (lower (omega tests) (λ e. absurd (omega tests))))
+      (λ y. rw y (decided (ltb n (2 * r)) (λ z. rw z (upper (omega tests) (λ e. absurd (omega tests))))
+      (λ z. rw z (decided (eqb (q % 2) 0) (λ w. rw w (lower (omega tests) (λ e. omega tests)))
+      (λ w. rw w (upper (omega tests) (λ e. eqb-false (q % 2) 0 w))))))))
 
   -- of two numbers that are rounded neither is larger, for they would be neighbours, both at the half;
   rounded-le : (p p′ : ℕ) → Rounded h n p → Rounded h n p′ → p′ ≤ p
@@ -60,7 +62,8 @@ module _ (h n : ℕ) (some : n ≢ 0) where
   -- so no other number is.
   rounded-once : (p : ℕ) → Rounded h n p → p ≡ percent h n
   rounded-once p z =
-      omega (arith, rounded-le p (percent h n) z percent-rounded, rounded-le (percent h n) p percent-rounded z)
+      let y = percent-rounded in
+      omega (arith, rounded-le p (percent h n) z y, rounded-le (percent h n) p y z)
 
 -- Request 8.
 pub request8 : Request8

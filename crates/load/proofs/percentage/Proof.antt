@@ -1,4 +1,4 @@
--- `load::percentage` meets its contract: each branch is a case of the rounding, and quotient and rest are small.
+-- `load::percentage` meets its contract: each branch is a case of the rounding, and the numbers are small.
 -- Assumes nothing.
 use Prim.Native.Nat.{_+_, _*_, _/_, _%_, _≤_, _<_}
 use mathlib.Core.Path.{_≡_}
