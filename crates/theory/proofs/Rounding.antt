@@ -20,12 +20,12 @@ next-mul q n = rw (add-mul q 1 n, one-mul n)
 
 module _ {h n : ℕ} (q r : ℕ) (split : q * n + r ≡ 100 * h) (rest : r < n) where
   -- The quotient is rounded where the rest is at most the half, and it is even at the half;
-  down : 2 * r ≤ n → (2 * r ≡ n → q % 2 ≡ 0) → Rounded h n q
-  down a even = record { nearest = omega arith; even = λ e. even (omega arith) }
+  quotient-rounded : 2 * r ≤ n → (2 * r ≡ n → q % 2 ≡ 0) → Rounded h n q
+  quotient-rounded a even = record { nearest = omega arith; even = λ e. even (omega arith) }
 
   -- the next number where the rest is at least the half, and the quotient is odd at the half.
-  up : n ≤ 2 * r → (2 * r ≡ n → q % 2 ≢ 0) → Rounded h n (q + 1)
-  up a odd = record {
+  next-rounded : n ≤ 2 * r → (2 * r ≡ n → q % 2 ≢ 0) → Rounded h n (q + 1)
+  next-rounded a odd = record {
     nearest = omega (arith, next-mul q n);
     even = λ e. let o = odd (omega (arith, next-mul q n)) in omega arith;
   }
@@ -39,8 +39,8 @@ module _ (h n : ℕ) (some : n ≢ 0) where
       let r = 100 * h % n in
       let split : q * n + r ≡ 100 * h = div-add-mod' (100 * h) n in
       let rest : r < n = mod-lt (100 * h) (omega arith) in
-      let lower = down {h = h} q r split rest in
-      let upper = up {h = h} q r split rest in
+      let lower = quotient-rounded {h = h} q r split rest in
+      let upper = next-rounded {h = h} q r split rest in
       rw (ne-eqb n 0 some)
       (decided (ltb (2 * r) n) (λ y. rw y (lower (omega tests) (λ e. absurd (omega tests))))
       (λ y. rw y (decided (ltb n (2 * r)) (λ z. rw z (upper (omega tests) (λ e. absurd (omega tests))))
@@ -48,22 +48,22 @@ module _ (h n : ℕ) (some : n ≢ 0) where
       (λ w. rw w (upper (omega tests) (λ e. eqb-false (q % 2) 0 w))))))))
 
   -- of two numbers that are rounded neither is larger, for they would be neighbours, both at the half;
-  rounded-le : (p p′ : ℕ) → Rounded h n p → Rounded h n p′ → p′ ≤ p
-  rounded-le p p′ y z = ⊎-elim (λ a. a) (λ a. absurd (apart a)) (at-most? p′ p)
+  rounded-le : (x y : ℕ) → Rounded h n x → Rounded h n y → y ≤ x
+  rounded-le x y a b = ⊎-elim (λ c. c) (λ c. absurd (apart c)) (at-most? y x)
     where
-      apart : p < p′ → ⊥
-      apart a =
-          let one : (p + 1) * n ≤ p′ * n = mul-le-mul-right n (omega arith) in
-          let even = y .even (omega (arith, next-mul p n)) in
-          let even′ = z .even (omega (arith, next-mul p n)) in
-          let two : (p + 1 + 1) * n ≤ p′ * n = mul-le-mul-right n (omega arith) in
-          omega (arith, next-mul p n, next-mul (p + 1) n)
+      apart : x < y → ⊥
+      apart c =
+          let one : (x + 1) * n ≤ y * n = mul-le-mul-right n (omega arith) in
+          let even = a .even (omega (arith, next-mul x n)) in
+          let even′ = b .even (omega (arith, next-mul x n)) in
+          let two : (x + 1 + 1) * n ≤ y * n = mul-le-mul-right n (omega arith) in
+          omega (arith, next-mul x n, next-mul (x + 1) n)
 
   -- so no other number is.
-  rounded-once : (p : ℕ) → Rounded h n p → p ≡ percent h n
-  rounded-once p z =
-      let y = percent-rounded in
-      omega (arith, rounded-le p (percent h n) z y, rounded-le (percent h n) p y z)
+  rounded-once : (x : ℕ) → Rounded h n x → x ≡ percent h n
+  rounded-once x a =
+      let b = percent-rounded in
+      omega (arith, rounded-le x (percent h n) a b, rounded-le (percent h n) x b a)
 
 -- Request 8.
 pub request8 : Request8
@@ -74,6 +74,6 @@ request8 b l e =
     let answer = load-accepted b l e in
     record {
       rounded = λ some. rw answer (percent-rounded h n some);
-      only = λ some p z. rw answer (rounded-once h n some p z);
+      only = λ some x a. rw answer (rounded-once h n some x a);
       empty = λ none. rw (answer, eq-eqb n 0 none);
     }

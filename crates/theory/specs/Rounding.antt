@@ -12,20 +12,20 @@ use Rattle.model.specs.Calls.Load.{heldEvents, load}
 abbrev pub distance : ℕ → ℕ → ℕ
 distance a b = (a - b) + (b - a)
 
--- The number p is 100 × h / n, rounded: both are taken n times, so that all are whole numbers.
-pub record Rounded (h n p : ℕ) : Type 0 where
+-- The number x is 100 × h / n, rounded: both are taken n times, so that all are whole numbers.
+pub record Rounded (h n x : ℕ) : Type 0 where
   -- It differs from 100 × h / n by at most a half,
-  pub nearest : 2 * distance (p * n) (100 * h) ≤ n
+  pub nearest : 2 * distance (x * n) (100 * h) ≤ n
   -- and is even where it differs by exactly a half.
-  pub even : 2 * distance (p * n) (100 * h) ≡ n → p % 2 ≡ 0
+  pub even : 2 * distance (x * n) (100 * h) ≡ n → x % 2 ≡ 0
 
 -- The request's clauses, for the recording b and the lock l.
 pub record Rounding (b : List ℕ) (l : ℕ) : Type 0 where
   -- The per cent is rounded so,
   pub rounded : length (trace b) ≢ 0 → Rounded (heldEvents (trace b) l) (length (trace b)) (load b l .percent)
   -- which is said of no other number;
-  pub only : length (trace b) ≢ 0 → (p : ℕ) → Rounded (heldEvents (trace b) l) (length (trace b)) p
-      → p ≡ load b l .percent
+  pub only : length (trace b) ≢ 0 → (x : ℕ) → Rounded (heldEvents (trace b) l) (length (trace b)) x
+      → x ≡ load b l .percent
   -- and it is 0 where there is no event.
   pub empty : length (trace b) ≡ 0 → load b l .percent ≡ 0
 
