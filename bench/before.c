@@ -1,6 +1,7 @@
 /* Every call of two states of the project in one run: before FOLDER FOLDER RECORDING... loads the calls of both
  * (timed.so and hidzvoma.so in each folder, the state before and the one after), calls them in turn, and prints
- * for each call how long it takes after / before over the recordings: geometric mean, least and most. */
+ * for each call how long it takes after / before over the recordings: geometric mean, least and most. A call
+ * takes the same arguments in both states, which nothing checks: one that changes them needs a line of its own. */
 #include <dlfcn.h>
 #include <math.h>
 #include <stdbool.h>
@@ -178,6 +179,7 @@ int main(int count, char **words) {
     if (lent == NULL) fail("no memory", "recordings");
     void *list_call = find(words[2], "hidzvoma", "hidzvoma_list");
     void *witness_call = find(words[2], "timed", "timed_witness");
+    if (list_call == NULL || witness_call == NULL) fail("no call for patterns and schedules in", words[2]);
     for (int i = 0; i < recordings; i++) read_recording(&lent[i], words[i + 3], list_call, witness_call);
     printf("| Call | after / before: geometric mean (least to most) | Recordings | Answers that differ |\n"
            "|---|---|---|---|\n");
