@@ -1,6 +1,6 @@
--- The holder of a lock after one event more of accepted records, and the count of the events after which
--- there is one. Assumes nothing.
-use Prim.Native.Nat.{ℕ, zero, suc, _+_, _-_, _*_, _≤_, _<_}
+-- The holder of a lock after one event more of accepted records, the count of the events after which there is
+-- one, and the cases of the rounding. Assumes nothing.
+use Prim.Native.Nat.{ℕ, zero, suc, _+_, _-_, _*_, _/_, _%_, _≤_, _<_}
 use mathlib.Core.Path.{_≡_, refl, sym, _∙_}
 use mathlib.Core.Logic.{_≢_}
 use mathlib.Core.Bool.{Bool, true, cond, not}
@@ -15,7 +15,7 @@ use Rattle.model.specs.Trace.{Trace, tasks, at, task, object, isAcquire, isRele
 use Rattle.model.specs.Recording.{decodeAll}
 use Rattle.model.specs.Relations.{holds}
 use Rattle.model.specs.Calls.Check.{checkEvents}
-use Rattle.model.specs.Calls.Load.{isHeldAfter}
+use Rattle.model.specs.Calls.Load.{isHeldAfter, percent}
 use Rattle.laws.specs.Walked.{Holder}
 use Rattle.laws.proofs.Tests.{decided}
 use Rattle.laws.proofs.Filters.{filter-next}
@@ -125,3 +125,38 @@ module _ (σ : Trace) (e l h : ℕ) (i : 1 ≤ e) (z : Holder σ (e + 1) l h) wh
   -- and another does not.
   pub uncounted : (n : ℕ) → n ≡ heldBefore σ l e → h ≡ 0 → n ≡ heldBefore σ l (e + 1)
   uncounted n q d = omega (arith, rw (le-ltb 0 h (omega arith)) at step)
+
+-- ---- rounding
+
+-- Without events the per cent is 0.
+pub percent-none : (h n : ℕ) → n ≡ 0 → 0 ≡ percent h n
+unfolding percent
+percent-none h n none = rw (eq-eqb n 0 none)
+
+module _ (h n : ℕ) (some : n ≢ 0) where
+  -- It is the quotient where the rest is below the half,
+  pub percent-below : 2 * (100 * h % n) < n → 100 * h / n ≡ percent h n
+  unfolding percent
+  percent-below a = rw (ne-eqb n 0 some, lt-ltb (2 * (100 * h % n)) n a)
+
+  -- and the next number where it is above.
+  pub percent-above : n < 2 * (100 * h % n) → 100 * h / n + 1 ≡ percent h n
+  unfolding percent
+  percent-above a =
+      let r = 100 * h % n in
+      rw (ne-eqb n 0 some, le-ltb (2 * r) n (omega arith), lt-ltb n (2 * r) a)
+
+  module _ (least : n ≤ 2 * (100 * h % n)) (most : 2 * (100 * h % n) ≤ n) where
+    -- At the half it is the quotient, if that is even,
+    pub percent-even : 100 * h / n % 2 ≡ 0 → 100 * h / n ≡ percent h n
+    unfolding percent
+    percent-even e =
+        let r = 100 * h % n in
+        rw (ne-eqb n 0 some, le-ltb (2 * r) n least, le-ltb n (2 * r) most, eq-eqb (100 * h / n % 2) 0 e)
+
+    -- and else the next number.
+    pub percent-odd : 100 * h / n % 2 ≢ 0 → 100 * h / n + 1 ≡ percent h n
+    unfolding percent
+    percent-odd d =
+        let r = 100 * h % n in
+        rw (ne-eqb n 0 some, le-ltb (2 * r) n least, le-ltb n (2 * r) most, ne-eqb (100 * h / n % 2) 0 d)

@@ -1,14 +1,10 @@
 -- `load::percentage` meets its contract: each branch is a case of the rounding, and the numbers are small.
 -- Assumes nothing.
-use Prim.Native.Nat.{_+_, _*_, _/_, _%_, _≤_, _<_}
-use mathlib.Core.Path.{_≡_}
-use mathlib.Core.Bool.{cond}
-use lib.Dec.{eqb}
+use Prim.Native.Nat.{_*_, _/_, _%_, _≤_, _<_}
 use native.Mathlib.Nat.{mod-lt, div-le-self}
 use native.Mathlib.Omega.{arith}
 use borrow.Author.Needs.{needs}
-use borrow.Author.Tests.{eq-eqb, ne-eqb, lt-ltb, le-ltb}
-use Rattle.model.specs.Calls.Load.{percent}
+use Rattle.load.proofs.Laws.{percent-none, percent-below, percent-above, percent-even, percent-odd}
 use Rattle.load.proofs.percentage.Statement.{statement}
 use Rattle.load.proofs.percentage.Tie as tie
 
@@ -18,8 +14,7 @@ small : (c : tie.Else1) → let a = c .before .args in
 small c = let a = c .before .args in (div-le-self (100 * a .h) (a .n), mod-lt (100 * a .h) (omega arith))
 
 returns : tie.Need-returns
-unfolding percent
-returns c = rw (eq-eqb (c .before .args .n) 0 (c .if1 .taken))
+returns c = percent-none (c .before .args .h) (c .before .args .n) (c .if1 .taken)
 
 mul-quotient : tie.Need-mul-quotient
 mul-quotient c = search needs
@@ -37,11 +32,9 @@ mul-if2 : tie.Need-mul-if2
 mul-if2 c = omega (arith, small c)
 
 returns-2 : tie.Need-returns-2
-unfolding percent
 returns-2 c =
     let a = c .before .before .args in
-    let r = 100 * a .h % a .n in
-    rw (ne-eqb (a .n) 0 (c .before .if1 .left), lt-ltb (2 * r) (a .n) (c .if2 .taken))
+    percent-below (a .h) (a .n) (c .before .if1 .left) (c .if2 .taken)
 
 mul-if3 : tie.Need-mul-if3
 mul-if3 c = omega (arith, small (c .before))
@@ -50,33 +43,15 @@ add-result : tie.Need-add-result
 add-result c = omega (arith, small (c .before .before))
 
 returns-3 : tie.Need-returns-3
-unfolding percent
 returns-3 c =
     let a = c .before .before .before .args in
-    let r = 100 * a .h % a .n in
-    rw (
-      ne-eqb (a .n) 0 (c .before .before .if1 .left),
-      le-ltb (2 * r) (a .n) (c .before .if2 .left),
-      lt-ltb (a .n) (2 * r) (c .if3 .taken),
-    )
-
--- At the half, the even one of quotient and next number.
-halved : (c : tie.Else3) → let a = c .before .before .before .args in
-    percent (a .h) (a .n) ≡ cond (eqb (100 * a .h / a .n % 2) 0) (100 * a .h / a .n) (100 * a .h / a .n + 1)
-unfolding percent
-halved c =
-    let a = c .before .before .before .args in
-    let r = 100 * a .h % a .n in
-    rw (
-      ne-eqb (a .n) 0 (c .before .before .if1 .left),
-      le-ltb (2 * r) (a .n) (c .before .if2 .left),
-      le-ltb (a .n) (2 * r) (c .if3 .left),
-    )
+    percent-above (a .h) (a .n) (c .before .before .if1 .left) (c .if3 .taken)
 
 returns-4 : tie.Need-returns-4
 returns-4 c =
     let a = c .before .before .before .before .args in
-    rw (halved (c .before), eq-eqb (100 * a .h / a .n % 2) 0 (c .if4 .taken))
+    percent-even (a .h) (a .n) (c .before .before .before .if1 .left)
+    (c .before .before .if2 .left) (c .before .if3 .left) (c .if4 .taken)
 
 add-result-2 : tie.Need-add-result-2
 add-result-2 c = omega (arith, small (c .before .before .before))
@@ -84,7 +59,8 @@ add-result-2 c = omega (arith, small (c .before .before .before))
 returns-5 : tie.Need-returns-5
 returns-5 c =
     let a = c .before .before .before .before .args in
-    rw (halved (c .before), ne-eqb (100 * a .h / a .n % 2) 0 (c .if4 .left))
+    percent-odd (a .h) (a .n) (c .before .before .before .if1 .left)
+    (c .before .before .if2 .left) (c .before .if3 .left) (c .if4 .left)
 
 pub percentage-spec : {M : Type 1} → statement M
 percentage-spec =
