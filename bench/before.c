@@ -9,7 +9,8 @@
 #include <stdio.h>
 #include <stdlib.h>
 #include <string.h>
-#include <time.h>
+
+#include "timing.h"
 
 enum { LARGEST = 8192, ROOM = 65536, ROUNDS = 15, MOST_CALLS = 5000 };
 
@@ -121,24 +122,11 @@ static void read_recording(struct lent *l, const char *path, void *list_call, vo
 
 /* ---- measuring */
 
-static double now(void) {
-    struct timespec t;
-    clock_gettime(CLOCK_PROCESS_CPUTIME_ID, &t);
-    return (double)t.tv_sec * 1e6 + (double)t.tv_nsec / 1e3;
-}
-
-static volatile uint64_t sum;
-
 /* Microseconds of so many calls. */
 static double batch(const struct call *c, void *f, struct lent *l, int count) {
     double start = now();
     for (int i = 0; i < count; i++) sum += c->run(f, l);
     return now() - start;
-}
-
-static int ascending(const void *a, const void *b) {
-    double x = *(const double *)a, y = *(const double *)b;
-    return (x > y) - (x < y);
 }
 
 /* After / before: the median over rounds of batches of about five milliseconds, both states in turn. */

@@ -6,7 +6,8 @@
 #include <stdio.h>
 #include <stdlib.h>
 #include <string.h>
-#include <time.h>
+
+#include "timing.h"
 
 enum { LARGEST = 8192, BATCHES = 101, CALLS = 20 };
 
@@ -111,14 +112,6 @@ static void compare(uint8_t *recording, size_t length) {
         agree(recording, short_length);
 }
 
-static double now(void) {
-    struct timespec t;
-    clock_gettime(CLOCK_PROCESS_CPUTIME_ID, &t);
-    return (double)t.tv_sec * 1e6 + (double)t.tv_nsec / 1e3;
-}
-
-static volatile uint64_t sum;
-
 /* Microseconds of one call, over a batch; of a short recording the batch has more calls. */
 static double batch(call *f, const uint8_t *recording, size_t length) {
     size_t calls = CALLS * (LARGEST / (length + 1) + 1);
@@ -126,11 +119,6 @@ static double batch(call *f, const uint8_t *recording, size_t length) {
     for (size_t i = 0; i < calls; i++)
         sum += f(recording, length);
     return (now() - start) / (double)calls;
-}
-
-static int ascending(const void *a, const void *b) {
-    double x = *(const double *)a, y = *(const double *)b;
-    return (x > y) - (x < y);
 }
 
 int main(int count, char **files) {

@@ -15,7 +15,7 @@ three-of-eight = recording (by 0 (acq 0 ∷ wr 0 ∷ wr 0 ∷ rel 0 ∷ replicat
 
 -- All samples of loads.
 pub record SamplePercents : Type 0 where
-  -- No event; and a lock that is held at the end.
+  -- No event; a lock that is held at the end; and three of seven events.
   pub load-empty : load (0x10 ∷ 0x00 ∷ []) 0 ≡ record { refusal = 0; event = 0; percent = 0 }
   pub load-kept : load (0x10 ∷ 0x01 ∷ 0x80 ∷ 0x3F ∷ []) 63 ≡ record { refusal = 0; event = 0; percent = 100 }
   pub load-nearest : load keeping 0 ≡ record { refusal = 0; event = 0; percent = 43 }
