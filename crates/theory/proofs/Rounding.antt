@@ -5,12 +5,12 @@ use mathlib.Core.Path.{_≡_}
 use mathlib.Core.Logic.{_≢_, ⊎-elim}
 use native.Mathlib.Nat.{mod-lt, div-add-mod', add-mul, one-mul, mul-le-mul-right}
 use native.Mathlib.Omega.{arith}
-use lib.Dec.{eqb, ltb}
+use lib.Dec.{ltb}
 use lib.ListN.{length}
-use borrow.Author.Tests.{eq-eqb, ne-eqb, eqb-false}
+use borrow.Author.Tests.{eq-eqb, ne-eqb}
 use Rattle.model.specs.Recording.{trace}
 use Rattle.model.specs.Calls.Load.{heldEvents, percent}
-use Rattle.laws.proofs.Tests.{decided, at-most?, tests}
+use Rattle.laws.proofs.Tests.{decided, equal?, at-most?, tests}
 use Rattle.laws.proofs.Answers.{load-accepted}
 use Rattle.theory.specs.Rounding.{Rounded, Request8}
 
@@ -44,8 +44,9 @@ module _ (h n : ℕ) (some : n ≢ 0) where
       rw (ne-eqb n 0 some)
       (decided (ltb (2 * r) n) (λ y. rw y (lower (omega tests) (λ e. absurd (omega tests))))
       (λ y. rw y (decided (ltb n (2 * r)) (λ z. rw z (upper (omega tests) (λ e. absurd (omega tests))))
-      (λ z. rw z (decided (eqb (q % 2) 0) (λ w. rw w (lower (omega tests) (λ e. omega tests)))
-      (λ w. rw w (upper (omega tests) (λ e. eqb-false (q % 2) 0 w))))))))
+      (λ z. rw z (⊎-elim (λ (even : q % 2 ≡ 0). rw even (lower (omega tests) (λ e. even)))
+      (λ (odd : q % 2 ≢ 0). let one : q % 2 ≡ 1 = omega arith in rw one (upper (omega tests) (λ e. odd)))
+      (equal? (q % 2) 0))))))
 
   -- of two numbers that are rounded neither is larger, for they would be neighbours, both at the half;
   rounded-le : (x y : ℕ) → Rounded h n x → Rounded h n y → y ≤ x
