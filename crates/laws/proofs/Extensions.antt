@@ -5,13 +5,13 @@ use mathlib.Core.Path.{_≡_, refl, sym, _∙_}
 use mathlib.Core.Bool.{true, false}
 use mathlib.Core.List.{[], _∷_, _++_}
 use lib.ListN.{length}
-use Rattle.model.specs.Lists.{from}
+use Rattle.model.specs.Lists.{from, each}
 use Rattle.model.specs.Trace.{Trace, object, isAcquire}
 use Rattle.model.specs.Relations.{held}
 use Rattle.model.specs.Pattern.{largestPattern, isDeadlock}
 use Rattle.model.specs.Listing.{deadlocks}
 use Rattle.laws.specs.Chain.{Chain, signature, start, add, fits, closes}
-use Rattle.laws.specs.Walk.{each, extensions, branch, beginning}
+use Rattle.laws.specs.Walk.{extensions, branch, beginning}
 use Rattle.laws.proofs.Tests.{decided}
 use Rattle.laws.proofs.Filters.{each-none}
 use Rattle.laws.proofs.Bits.{hasBit-none}

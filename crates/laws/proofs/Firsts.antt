@@ -8,8 +8,8 @@ use mathlib.Core.List.{List, [], _++_}
 use native.Mathlib.Omega.{arith}
 use lib.Dec.{eqb}
 use borrow.Author.Tests.{eq-eqb, ne-eqb}
-use Rattle.model.specs.Lists.{from}
-use Rattle.laws.specs.Walk.{each, First, upTo}
+use Rattle.model.specs.Lists.{from, each}
+use Rattle.laws.specs.Walk.{First, upTo}
 use Rattle.laws.proofs.Tests.{equal?, at-most?}
 use Rattle.laws.proofs.Lists.{from-iff}
 use Rattle.laws.proofs.Filters.{each-none, each-next}

@@ -7,16 +7,10 @@ use mathlib.Core.Bool.{Bool, false, cond, not}
 use mathlib.Core.List.{List, [], _∷_, _++_}
 use lib.Dec.{T, eqb}
 use lib.ListN.{length}
-use Rattle.model.specs.Lists.{from}
+use Rattle.model.specs.Lists.{from, each}
 use Rattle.model.specs.Trace.{Trace, isAcquire}
 use Rattle.model.specs.Pattern.{isDeadlock}
 use Rattle.laws.specs.Chain.{Signature, Chain, signature, start, add, fits, closes}
-
-module _ {ℓ κ} {A : Type ℓ} {B : Type κ} where
-  -- The lists that the elements yield, one after the other.
-  abbrev pub each : (A → List B) → List A → List B
-  each g [] = []
-  each g (x ∷ l) = g x ++ each g l
 
 -- The number x is the first after e, and at most n, that passes the test, or 0.
 pub record First (p : ℕ → Bool) (n e x : ℕ) : Type 0 where

@@ -23,8 +23,8 @@ use Rattle.listing.specs.Delivered.{Delivered}
 
 -- ---- the size
 
--- 0 stands for 2.
-pub size-default : (k : ℕ) → k ≡ 0 → 2 ≡ cond (isAccepted (permitsSize k)) (largestSize k) 0
+-- 0 stands for 16.
+pub size-default : (k : ℕ) → k ≡ 0 → 16 ≡ cond (isAccepted (permitsSize k)) (largestSize k) 0
 unfolding permitsSize largestSize
 size-default k q = rw q refl
 

@@ -9,7 +9,7 @@ use lib.Dec.{T}
 use lib.Bits.{bitOr, or-zero-l}
 use lib.ListN.{length, getD, take, set, replicate, length-set}
 use lib.Seq.{getD-set-same, take-suc-set}
-use Rattle.model.specs.Lists.{from, hasBit}
+use Rattle.model.specs.Lists.{from, each, hasBit}
 use Rattle.model.specs.Trace.{Trace, tasks, locks, task, object, isAcquire}
 use Rattle.model.specs.Relations.{held}
 use Rattle.model.specs.Pattern.{largestPattern}
@@ -17,7 +17,7 @@ use Rattle.model.specs.Listing.{deadlocks}
 use Rattle.laws.specs.Chain.{signature, start}
 use Rattle.laws.specs.Frontier.{Before}
 use Rattle.chain.specs.Attempted.{Reusable}
-use Rattle.laws.specs.Walk.{each, upTo, beginning}
+use Rattle.laws.specs.Walk.{upTo, beginning}
 use Rattle.laws.specs.Returning.{Returning}
 use Rattle.entries.specs.declared.Found.{Found}
 use Rattle.entries.specs.Taken.{Taken, Adds, Roomy}

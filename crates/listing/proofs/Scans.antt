@@ -10,10 +10,10 @@ use lib.Dec.{T, eqb}
 use lib.Bits.{bitOr}
 use lib.ListN.{length}
 use borrow.Author.Tests.{ne-eqb, eqb-true}
-use Rattle.model.specs.Lists.{from, hasBit}
+use Rattle.model.specs.Lists.{from, each, hasBit}
 use Rattle.model.specs.Trace.{Trace, task, isAcquire}
 use Rattle.laws.specs.Chain.{Chain, signature, fits, chainOf}
-use Rattle.laws.specs.Walk.{each, First, upTo, extensions, branch}
+use Rattle.laws.specs.Walk.{First, upTo, extensions, branch}
 use Rattle.laws.specs.Returning.{Covers}
 use Rattle.laws.proofs.Tests.{and-iff, not-mono, decided, or-l, is-true, equal?}
 use Rattle.laws.proofs.Bits.{hasBit-set}

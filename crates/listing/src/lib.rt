@@ -118,7 +118,7 @@ fn size_of(largest: u64) -> usize
     ensures { λ r. ⌜ r ≡ cond (isAccepted (permitsSize largest)) (largestSize largest) 0 ⌝ }
 {
     if largest == 0 {
-        return 2;
+        return 16;
     }
     if largest < 2 {
         return 0;
@@ -141,7 +141,7 @@ fn unlisted(refusal: u64, event: u64) -> model::Listed
     }
 }
 
-// The listing of a recording's deadlocks of at most `largest` events, 0 for 2: question 8, then 13.
+// The listing of a recording's deadlocks of at most `largest` events, 0 for 16: question 8, then 13.
 pub fn list(recording: &[u8], largest: u64, out: &mut [u8]) -> model::Listed
     ensures answer { λ r. ⌜ r ≡ list (now (recording .entry)) largest (length (now (out .entry))) ⌝ }
     ensures output { λ r. ⌜ now (out .exit) ≡ listOut (now (recording .entry)) largest (now (out .entry)) ⌝ }

@@ -95,13 +95,13 @@ fn put_refusal(text: &mut [u8], refusal: u64, event: u64) -> usize
     printing::put(text, placed, b"\n")
 }
 
-// Puts the lines for a recording, whose listing with size 0 gets an output of 65,536 bytes.
+// Puts the lines for a recording, whose listing with size 2 gets an output of 65,536 bytes.
 fn report(recording: &[u8], text: &mut [u8]) -> usize
     requires { ⌜ textLength 65536 ≤ length (now text) ⌝ }
     ensures { λ r. ⌜ Counts r (now (text .exit)) ⌝ }
 {
     let mut out = io::large_buffer();
-    let listed = listing::list(recording, 0, &mut out);
+    let listed = listing::list(recording, 2, &mut out);
     if listed.refusal != 0 {
         return put_refusal(text, listed.refusal, listed.event);
     }
