@@ -55,7 +55,8 @@ static uint64_t list(void *f, struct lent *l, uint64_t largest) {
 
 static uint64_t list_pairs(void *f, struct lent *l) { return list(f, l, 2); }
 static uint64_t list_to_four(void *f, struct lent *l) { return list(f, l, 4); }
-static uint64_t list_all(void *f, struct lent *l) { return list(f, l, 16); }
+static uint64_t list_to_sixteen(void *f, struct lent *l) { return list(f, l, 16); }
+static uint64_t list_by_default(void *f, struct lent *l) { return list(f, l, 0); }
 
 static uint64_t on_pattern(void *f, struct lent *l) {
     return ((patterned *)f)(l->recording, l->length, l->pattern, 4);
@@ -81,7 +82,8 @@ static const struct call {
     {"close", "timed", "timed_close", on_set, false},
     {"list, size 2", "hidzvoma", "hidzvoma_list", list_pairs, false},
     {"list, size 4", "hidzvoma", "hidzvoma_list", list_to_four, false},
-    {"list, size 16", "hidzvoma", "hidzvoma_list", list_all, false},
+    {"list, size 16", "hidzvoma", "hidzvoma_list", list_to_sixteen, false},
+    {"list, size 0", "hidzvoma", "hidzvoma_list", list_by_default, false},
     {"verdict", "hidzvoma", "hidzvoma_verdict", on_pattern, true},
     {"witness", "timed", "timed_witness", to_witness, true},
     {"schedule", "timed", "timed_schedule", on_schedule, true},

@@ -51,7 +51,7 @@ int main(int count, char **names) {
         if (file == NULL) return 1;
         length = fread(recording, 1, sizeof recording, file);
         fclose(file);
-        for (largest = 2; largest <= 16; largest += 14) {
+        for (largest = 0; largest <= 2; largest += 2) {
             size_t used = touched(list, stack);
             if (most < used) most = used;
         }

@@ -3,9 +3,9 @@
  *
  *     linker [-k SIZE] [-o BYTES] RECORDING...
  *
- * -k gives the largest size of a pattern (2 without it), -o the length of the listing's output (65,536). The
- * exit status is 1 where the verdict of a listed pattern is not deadlock, and 2 for wrong arguments or a file
- * that cannot be read. */
+ * -k gives the largest size of a pattern (without it 0, which stands for 16: patterns of all sizes), -o the
+ * length of the listing's output (65,536). The exit status is 1 where the verdict of a listed pattern is not
+ * deadlock, and 2 for wrong arguments or a file that cannot be read. */
 #include "hidzvoma.h"
 
 #include <stdio.h>
@@ -85,7 +85,7 @@ static void put_guards(const char *path, struct bytes recording, uint64_t larges
 }
 
 int main(int argc, char **argv) {
-    uint64_t largest = 2;
+    uint64_t largest = 0;
     struct bytes out = {NULL, 65536};
     int i = 1;
     for (; i + 1 < argc && argv[i][0] == '-'; i += 2) {

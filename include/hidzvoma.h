@@ -31,7 +31,7 @@
  *     5   is the lock of an acquire held by no task, its own included?
  *     6   is the lock of a release held by that task?
  *     7   does a read have an earlier write of its variable?
- *     8   is `largest` 0, or 2 to 16?                                               (hidzvoma_list)
+ *     8   is `largest` 0, or 2 to 16? (0 stands for 16)                             (hidzvoma_list)
  *    10   is `pattern` a deadlock pattern of this recording, smallest event first?  (hidzvoma_verdict)
  *    13   does the whole listing fit `out_len` bytes?                               (hidzvoma_list)
  *
@@ -47,9 +47,14 @@
 extern "C" {
 #endif
 
-/* Lists every deadlock pattern of at most `largest` events (0 stands for 2) whose verdict is deadlock, once,
- * smaller first by the first event number that differs. Each is an entry in `out`, one behind the other: its
- * size, and then its events, so 2 * (k + 1) bytes for k events.
+/* Lists every deadlock pattern of at most `largest` events whose verdict is deadlock, once, smaller first by
+ * the first event number that differs. 0 stands for 16, which no pattern exceeds: with it patterns of all sizes
+ * are listed. Each is an entry in `out`, one behind the other: its size, and then its events, so 2 * (k + 1)
+ * bytes for k events.
+ *
+ * A caller that wants pairs alone passes 2; with 0 it reads the size of each entry, which need not be 2. All
+ * sizes can need far more bytes than pairs do (13 where `out` is too short for them), and far more time:
+ * minutes for some recordings of thousands of events whose pairs take milliseconds.
  *
  * Returns how many bytes it has written, always even, or a refusal, 1 to 8 or 13. The bytes of `out` behind
  * the written ones are unchanged; with a refusal all of them are. */

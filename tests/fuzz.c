@@ -180,6 +180,11 @@ static bool is_size(uint64_t largest) {
     return largest == 0 || (2 <= largest && largest <= 16);
 }
 
+/* How many events an entry may have: 0 stands for 16. */
+static size_t most_events_of_entry(uint64_t largest) {
+    return largest == 0 ? 16 : (size_t)largest;
+}
+
 /* Question 10, of a well-formed recording. */
 static bool is_pattern(struct bytes recording, struct bytes pattern) {
     uint64_t tasks = 0, locks = 0, all_held = 0;
@@ -490,8 +495,8 @@ static uint64_t verdict(struct bytes recording, struct bytes pattern) {
 
 /* ---- listings */
 
-/* How many entries of each size were listed. */
-static size_t entries[17];
+/* How many entries of each size were listed, and how many of them of more than two events with size 0. */
+static size_t entries[17], larger_with_0;
 
 /* Sees that a listing is patterns of permitted sizes in ascending order, each with the verdict deadlock, and
  * nothing behind the last one. */
@@ -501,7 +506,7 @@ static void check_listing(struct bytes recording, uint64_t largest, struct bytes
         expect(listing.length - at >= 2, "a listing with bytes behind its last entry");
         size_t size = number(listing.at + at);
         struct bytes pattern = {listing.at + at + 2, 2 * size};
-        expect(2 <= size && size <= (largest == 0 ? 2 : largest), "an entry of a size that is not permitted");
+        expect(2 <= size && size <= most_events_of_entry(largest), "an entry of a size that is not permitted");
         expect(2 + pattern.length <= listing.length - at, "a listing that ends within an entry");
         tried.pattern = pattern;
         expect(is_pattern(recording, pattern), "an entry that is no pattern");
@@ -510,6 +515,7 @@ static void check_listing(struct bytes recording, uint64_t largest, struct bytes
         expect(hidzvoma_verdict(recording.at, recording.length, pattern.at, pattern.length) == 2,
                "an entry whose verdict is not deadlock");
         entries[size]++;
+        larger_with_0 += largest == 0 && size > 2;
         last = pattern;
     }
 }
@@ -525,13 +531,23 @@ static void check_room(struct bytes recording, uint64_t largest, struct bytes li
                "a listing that fits less than its length");
 }
 
+/* Sees that 0 and 16 are answered alike: by the same number, with the same bytes. */
+static void check_default(struct bytes recording, struct bytes listing, uint64_t n, size_t length) {
+    static uint8_t memory[OUT];
+    expect(list(recording, 16, (struct bytes){memory, length}) == n, "a size 0 that does not stand for 16");
+    expect(n % 2 == 1 || memcmp(memory, listing.at, n) == 0, "a listing with 0 that is not the one with 16");
+}
+
+/* A largest size, mostly a permitted one; a small one for a long walk, of which larger patterns take long to
+ * list. */
 static uint64_t any_largest(size_t events) {
-    static const uint64_t wrong[] = {1, 17, 18, 258, 65538, (uint64_t)1 << 32 | 2, UINT64_MAX};
+    static const uint64_t wrong[] = {1, 17, 18, 256, 258, 65536, 65538, (uint64_t)1 << 32, (uint64_t)1 << 32 | 2,
+                                     UINT64_MAX};
     if (chance(8))
         return wrong[below(sizeof wrong / sizeof *wrong)];
     if (events > 400)
-        return chance(50) ? 0 : between(2, 3);
-    return chance(10) ? 0 : chance(20) ? 16 : between(2, 15);
+        return between(2, 3);
+    return chance(30) ? 0 : chance(20) ? 16 : between(2, 15);
 }
 
 static size_t any_length(void) {
@@ -544,15 +560,19 @@ static size_t any_length(void) {
 }
 
 /* Lists a recording into an output of any length, and where that is refused with 13, into the longest one;
- * sees that the listing, if there is one, is right, and needs its length. Returns the last number; the
- * listing becomes the bytes written. */
+ * sees that the listing, if there is one, is right, and needs its length, and that 0 stands for 16. Returns the
+ * last number; the listing becomes the bytes written. */
 static uint64_t try_listing(struct bytes recording, uint64_t largest, struct bytes *listing) {
     size_t length = any_length();
     uint64_t n = list(recording, largest, (struct bytes){listing->at, length});
     if (n == refused(13, 0)) {
-        n = list(recording, largest, (struct bytes){listing->at, OUT});
-        expect(n % 2 == 1 || n > length, "a 13 for a listing that fits");
+        size_t short_length = length;
+        length = OUT;
+        n = list(recording, largest, (struct bytes){listing->at, length});
+        expect(n % 2 == 1 || n > short_length, "a 13 for a listing that fits");
     }
+    if (largest == 0)
+        check_default(recording, *listing, n, length);
     listing->length = n % 2 == 1 ? 0 : n;
     if (n % 2 == 0) {
         check_listing(recording, largest, *listing);
@@ -671,7 +691,7 @@ static void try_patterns(struct bytes recording, uint64_t largest, uint64_t list
     for (size_t left = 4; left > 0; left--) {
         put_pattern(recording, listing, &pattern);
         uint64_t n = verdict(recording, pattern);
-        if (listed % 2 == 0 && pattern.length <= 2 * (largest == 0 ? 2 : largest))
+        if (listed % 2 == 0 && pattern.length <= 2 * most_events_of_entry(largest))
             expect((n == 2) == lists(listing, pattern), "a verdict that the listing contradicts");
     }
 }
@@ -768,7 +788,8 @@ int main(int argc, char **argv) {
     printf("verdicts: deadlock %zu, not %zu\nentries of sizes 2 to 16:", verdicts[1], verdicts[0]);
     for (size_t size = 2; size <= 16; size++)
         printf(" %zu", entries[size]);
-    printf("\n");
+    printf("\nentries of more than two events with size 0: %zu\n", larger_with_0);
+    missing += larger_with_0 == 0;
     if (missing > 0)
         printf("fuzz: %zu answers never came\n", missing);
     return missing == 0 ? 0 : 1;

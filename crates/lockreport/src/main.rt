@@ -3,6 +3,7 @@
 ghost use Prim.Native.Nat.{_+_, _*_, _/_, _≤_, _<_};
 ghost use mathlib.Core.Path.{_≡_};
 ghost use lib.ListN.{length, drop};
+ghost use Rattle.model.specs.Calls.List.{list, listOut};
 ghost use Rattle.io.specs.Counts.{Counts};
 ghost use Rattle.lockreport.specs.Text.{Entries, textLength};
 use libc::STDIN_FILENO;
@@ -95,13 +96,21 @@ fn put_refusal(text: &mut [u8], refusal: u64, event: u64) -> usize
     printing::put(text, placed, b"\n")
 }
 
-// Puts the lines for a recording, whose listing with size 2 gets an output of 65,536 bytes.
+// The listing that the lines show: pairs alone, which readers of lockreport like.
+fn list_pairs(recording: &[u8], out: &mut [u8]) -> model::Listed
+    ensures answer { λ r. ⌜ r ≡ list (now (recording .entry)) 2 (length (now (out .entry))) ⌝ }
+    ensures output { λ r. ⌜ now (out .exit) ≡ listOut (now (recording .entry)) 2 (now (out .entry)) ⌝ }
+{
+    listing::list(recording, 2, out)
+}
+
+// Puts the lines for a recording, whose listing gets an output of 65,536 bytes.
 fn report(recording: &[u8], text: &mut [u8]) -> usize
     requires { ⌜ textLength 65536 ≤ length (now text) ⌝ }
     ensures { λ r. ⌜ Counts r (now (text .exit)) ⌝ }
 {
     let mut out = io::large_buffer();
-    let listed = listing::list(recording, 2, &mut out);
+    let listed = list_pairs(recording, &mut out);
     if listed.refusal != 0 {
         return put_refusal(text, listed.refusal, listed.event);
     }

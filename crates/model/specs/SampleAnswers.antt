@@ -1,5 +1,5 @@
--- What the rows leave out of the answers: relations, sets of whole bytes, and the entries for C. One record of
--- facts and one proof, by computation; loads are in SamplePercents.
+-- What the rows leave out of the answers: relations, sets of whole bytes, and the entries for C. One record
+-- of facts and one proof, by computation; loads are in SamplePercents, largest sizes in SampleSizes.
 use Prim.Native.Nat.{ℕ, _+_, _*_}
 use mathlib.Core.Path.{_≡_, refl}
 use mathlib.Core.List.{List, [], _∷_, _++_}

@@ -1,4 +1,5 @@
--- Request 5 holds: 0 and 16 are the same largest size, and no pattern has more than 16 events. Assumes nothing.
+-- Request 5 holds: 0 and 16 are the same largest size, and no pattern has more than 16 events. Assumes
+-- nothing.
 use Prim.Native.Nat.{ℕ, _≤_}
 use mathlib.Core.Path.{_≡_, refl}
 use mathlib.Core.List.{List}
@@ -11,7 +12,6 @@ use Rattle.model.specs.Calls.List.{largestSize, listing, listRefusal, list, lis
 use Rattle.model.specs.Calls.Entries.{listEntry}
 use Rattle.laws.proofs.Tests.{tests}
 use Rattle.laws.proofs.Pattern.{isPattern-iff}
-use Rattle.theory.specs.Claim.{Compared, Claim}
 use Rattle.theory.specs.AllSizes.{Request5}
 use Rattle.theory.proofs.Claim.{list-exact, demand3}
 

@@ -20,8 +20,8 @@ pub record AllSizes (b out : List ℕ) : Type 0 where
   pub output : listOut b 0 out ≡ listOut b 16 out
   -- and so does the entry for C, which passes on what it is given.
   pub entry : listEntry b 0 (length out) ≡ listEntry b 16 (length out)
-  -- In an unrefused listing with 0 stands every deadlock pattern, of whatever size, of which some order-keeping
-  -- schedule leaves every event next; and nothing else stands there.
+  -- In an unrefused listing with 0 stands every deadlock pattern, of whatever size, of which some
+  -- order-keeping schedule leaves every event next; and nothing else stands there.
   pub stands : list b 0 (length out) .refusal ≡ 0 → (p : List ℕ)
       → List·Memᴰ p (listing b 0) ↔ (T (isPattern (trace b) p) × Witnessed (trace b) p)
   -- Demand 3 compares calls after 0 has been replaced: what it claims of two calls with 16, it claims where

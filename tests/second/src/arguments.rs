@@ -5,12 +5,12 @@ use crate::patterns::{is_deadlock, Search};
 use crate::random::Random;
 use crate::recording::{bytes_from, Recording};
 
-/// A largest size: mostly one of 0 and 2 to 16, else one that question 8 refuses.
+/// A largest size: mostly 0, which stands for 16, or 2 to 16, else one that question 8 refuses.
 pub fn size(random: &mut Random) -> u64 {
-    if random.chance(92) {
-        random.pick(&[0, 2, 2, 2, 3, 3, 4, 5, 6, 7, 8, 9, 10, 11, 12, 13, 14, 15, 16, 16, 16, 16, 16, 16])
-    } else {
-        random.pick(&[1, 1, 17, 18, 256, 258, 65_536, 65_538, (1 << 32) + 2, u64::MAX])
+    match random.below(100) {
+        0..=36 => 0,
+        37..=91 => random.pick(&[2, 2, 2, 3, 3, 4, 5, 6, 7, 8, 9, 10, 11, 12, 13, 14, 15, 15, 16, 16]),
+        _ => random.pick(&[1, 1, 17, 18, 256, 258, 65_536, 65_538, 1 << 32, (1 << 32) + 2, u64::MAX]),
     }
 }
 

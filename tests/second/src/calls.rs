@@ -107,10 +107,10 @@ pub fn list(recording: &[u8], size: u64, out: &mut [u8]) -> Result<Listed, Refus
     Ok(Listed { patterns, bytes: entries.len() as u64 })
 }
 
-/// Question 8: "Is the largest size 0, or 2 to 16? No: 8. (0 stands for 2.)"
+/// Question 8: "Is the largest size 0, or 2 to 16? No: 8."; 02, job 5: "From now on 0 stands for 16."
 fn largest_size(size: u64) -> Result<usize, Refusal> {
     match size {
-        0 => Ok(2),
+        0 => Ok(16),
         2..=16 => Ok(size as usize),
         _ => Err(Refusal::without_event(8)),
     }

@@ -1,8 +1,9 @@
 //! The comparison of another implementation's answers with this one's.
 
-use crate::protocol::{answer, held_of_all, BAD_REQUEST, CALLS};
+use crate::protocol::{answer, held_of_all, written_with_size_0, Answer, BAD_REQUEST, CALLS};
 
-/// What was compared: requests by call, answers by refusal number, loads at a half, and differences.
+/// What was compared: requests by call, answers by refusal number, loads at a half, listings with size 0,
+/// and differences.
 #[derive(Default)]
 pub struct Summary {
     calls: [u64; CALLS.len()],
@@ -10,6 +11,8 @@ pub struct Summary {
     bad_requests: u64,
     /// Loads at a half above an even whole per cent, and above an odd one.
     halves: [u64; 2],
+    /// Accepted listings with size 0, by the size of the largest entry, which is 0 where there is none.
+    largest_entries: [u64; 17],
     compared: u64,
     differ: u64,
 }
@@ -20,7 +23,7 @@ impl Summary {
         self.compared += 1;
         let own = match answer(request) {
             Some(own) => {
-                self.count(request, own.refusal);
+                self.count(request, &own);
                 own.line
             }
             None => {
@@ -35,12 +38,15 @@ impl Summary {
         Some(format!("request: {request}\nsecond:  {own}\nother:   {other}"))
     }
 
-    fn count(&mut self, request: &str, refusal: u64) {
+    fn count(&mut self, request: &str, own: &Answer) {
         let name = request.split(' ').next();
         let call = CALLS.iter().position(|&call| Some(call) == name);
         self.calls[call.expect("an answered call is known")] += 1;
-        self.refusals[refusal as usize] += 1;
+        self.refusals[own.refusal as usize] += 1;
         self.count_half(request);
+        if let Some(entries) = written_with_size_0(request, own) {
+            self.largest_entries[largest_entry(&entries)] += 1;
+        }
     }
 
     /// Counts a load whose 100 × h / n is exactly a half above a whole per cent.
@@ -64,21 +70,45 @@ impl Summary {
             self.refusals.iter().enumerate().map(|(number, &count)| named(&format!("{number}:"), count));
         let [below, above] = self.halves;
         let halves = format!("loads at a half: to the even below {below}, to the even above {above}");
+        let [listings, two, more, sixteen] = self.listings_with_size_0();
+        let listings = format!(
+            "listings with size 0: {listings}, largest entry of two events {two}, \
+             of three to fifteen events {more}, of sixteen events {sixteen}"
+        );
         format!(
-            "requests: {}\nrefusals: {}\nbad requests: {}\n{}\n{} compared, {} differ",
+            "requests: {}\nrefusals: {}\nbad requests: {}\n{}\n{}\n{} compared, {} differ",
             calls.collect::<Vec<_>>().join(", "),
             refusals.collect::<Vec<_>>().join(", "),
             self.bad_requests,
             halves,
+            listings,
             self.compared,
             self.differ
         )
     }
+
+    /// All accepted listings with size 0, and those whose largest entry has two events, three to fifteen,
+    /// and sixteen.
+    fn listings_with_size_0(&self) -> [u64; 4] {
+        [0..=16, 2..=2, 3..=15, 16..=16].map(|sizes| self.largest_entries[sizes].iter().sum())
+    }
+}
+
+/// The largest size among entries, each "size, then the events", or 0 where there is none.
+fn largest_entry(mut entries: &[usize]) -> usize {
+    let mut largest = 0;
+    while let [size, rest @ ..] = entries {
+        largest = largest.max(*size);
+        entries = &rest[*size..];
+    }
+    largest
 }
 
 #[cfg(test)]
 mod tests {
     use super::Summary;
+    use crate::protocol::hexadecimal;
+    use crate::rows::ring;
 
     #[test]
     fn halves_are_counted() {
@@ -96,5 +126,30 @@ mod tests {
             assert_eq!(summary.compare(request, line), None);
         }
         assert_eq!(summary.halves, [1, 1]);
+    }
+
+    #[test]
+    fn listings_with_size_0_are_counted() {
+        let mut summary = Summary::default();
+        let mut compare = |request: &str, line: &str| assert_eq!(summary.compare(request, line), None);
+        let [two, three, sixteen] = [2, 3, 16].map(|tasks| hexadecimal(&ring(tasks)));
+        compare("list 1000 0 -", "0 0 0 0 -");
+        compare(&format!("list {two} 0 7777777777777777"), "0 0 1 6 0002000200067777");
+        compare(&format!("clist {two} 0 777777777777"), "6 000200020006");
+        compare(&format!("list {two} 2 777777777777"), "0 0 1 6 000200020006");
+        compare(&format!("list {two} 1 777777777777"), "8 0 0 0 777777777777");
+        compare(&format!("clist {three} 0 7777777777777777"), "8 000300020006000a");
+        compare(&format!("clist {three} 0 77777777777777"), "1703937 77777777777777");
+        compare(&format!("list {three} 0 77777777777777"), "13 0 0 0 77777777777777");
+        let three_then_two = "101080008001c001c00084018402c402c40188028800c800c8028c018c00cc00cc01";
+        let (room, entries) = ("7".repeat(28), "000300020006000a00020002000e");
+        compare(&format!("list {three_then_two} 0 {room}"), &format!("0 0 2 14 {entries}"));
+        let room = "7".repeat(68);
+        let entry =
+            "00100002 0006000a 000e0012 0016001a 001e0022 0026002a 002e0032 0036003a 003e".replace(' ', "");
+        compare(&format!("list {sixteen} 0 {room}"), &format!("0 0 1 34 {entry}"));
+        compare(&format!("list {sixteen} 16 {room}"), &format!("0 0 1 34 {entry}"));
+        compare(&format!("list {sixteen} 15 {room}"), &format!("0 0 0 0 {room}"));
+        assert_eq!(summary.listings_with_size_0(), [6, 2, 2, 1]);
     }
 }

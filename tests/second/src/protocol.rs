@@ -1,7 +1,7 @@
 //! Requests and answers as lines of text; bytes are hexadecimal, `-` for none.
 
 use crate::calls;
-use crate::recording::Refusal;
+use crate::recording::{numbers_from, Refusal};
 
 /// The calls of the protocol, in its order.
 pub const CALLS: [&str; 10] =
@@ -46,6 +46,20 @@ pub fn held_of_all(line: &str) -> Option<(u64, u64)> {
         ["load", rec, lock] => calls::held_of_all(&bytes(rec)?, number(lock)?).ok(),
         _ => None,
     }
+}
+
+/// The numbers that the line's listing with size 0 wrote according to its answer, or none where the line is
+/// no listing, one with another size, or a refused one.
+pub fn written_with_size_0(line: &str, answer: &Answer) -> Option<Vec<usize>> {
+    let words: Vec<&str> = line.split(' ').collect();
+    let answered: Vec<&str> = answer.line.split(' ').collect();
+    let (written, lent) = match (&words[..], &answered[..]) {
+        _ if answer.refusal != 0 => return None,
+        (["list", _, "0", _], [_, _, _, written, lent]) => (written, lent),
+        (["clist", _, "0", _], [written, lent]) => (written, lent),
+        _ => return None,
+    };
+    Some(numbers_from(&bytes(lent)?[..number(written)? as usize]))
 }
 
 /// Bytes as lowercase hexadecimal digits, `-` for none.

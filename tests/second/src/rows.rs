@@ -1,4 +1,5 @@
-//! Rows A to K of 01 as the requests of 02 have changed them, as statements about the calls.
+//! Rows A to K of 01 and the sizes of a listing, as the requests of 02 have changed them, as statements about
+//! the calls.
 
 use crate::calls::{check, close, list, load, schedule, verdict, witness, Listed, Witnessed};
 use crate::closure::put_into_set;
@@ -18,7 +19,7 @@ const G: &str = "T0 a0 r0 W0 W0 W0 W0 W0 W0";
 /// The names of the rows' statements that fail, 01: "Rows A to K are proved together, from the
 /// definitions, as a single tabulated fact"; a row that a request of 02 has changed is as it is there.
 pub fn failing() -> Vec<&'static str> {
-    let statements = [row_a(), row_b_to_d(), row_e(), row_f(), row_g(), row_h_to_k()].concat();
+    let statements = [row_a(), row_b_to_d(), row_e(), row_f(), sizes(), row_g(), row_h_to_k()].concat();
     statements.into_iter().filter(|(_, holds)| !holds).map(|(name, _)| name).collect()
 }
 
@@ -58,8 +59,32 @@ fn row_f() -> Statements {
     vec![
         ("F: listed with size 3", lists(&row(F), 3, &[&[2, 10, 6]])),
         ("F: eight bytes", list(&row(F), 3, &mut [7; 8]) == Ok(Listed { patterns: 1, bytes: 8 })),
-        ("F: seven bytes", refuses_unchanged(&row(F), 3, 7)),
+        ("F: seven bytes", refuses_unchanged(13, &row(F), 3, 7)),
         ("F: size 2 is empty", lists(&row(F), 2, &[])),
+        ("F: listed with size 0", lists(&row(F), 0, &[&[2, 10, 6]])),
+        ("F: seven bytes with size 0", refuses_unchanged(13, &row(F), 0, 7)),
+    ]
+}
+
+/// 02, job 5: "A four-task deadlock between radio and metering was missing because the size had been left
+/// at 0. From now on 0 stands for 16."; the sizes that question 8 permits are as they were.
+fn sizes() -> Statements {
+    let lists_ring = |tasks: usize, size| lists(&ring(tasks), size, &[&ring_pattern(tasks)]);
+    let lists_nothing = |tasks: usize, size| lists(&ring(tasks), size, &[]);
+    let accepted = |size| list(&ring(4), size, &mut [7; 100]).is_ok();
+    let refused = |size| refuses_unchanged(8, &ring(4), size, 100);
+    vec![
+        ("four tasks: listed with size 0", lists_ring(4, 0)),
+        ("four tasks: listed with size 4", lists_ring(4, 4)),
+        ("four tasks: size 3 is empty", lists_nothing(4, 3)),
+        ("sixteen tasks: listed with size 0", lists_ring(16, 0)),
+        ("sixteen tasks: listed with size 16", lists_ring(16, 16)),
+        ("sixteen tasks: size 15 is empty", lists_nothing(16, 15)),
+        ("sixteen tasks: 33 bytes with size 0", refuses_unchanged(13, &ring(16), 0, 33)),
+        ("size: 0 and 2 to 16 are accepted", accepted(0) && (2..=16).all(accepted)),
+        ("size: 1 gives 8", refused(1)),
+        ("size: 17 gives 8", refused(17)),
+        ("size: 2 to the 32 gives 8", refused(1 << 32)),
     ]
 }
 
@@ -111,6 +136,19 @@ fn row(text: &str) -> Vec<u8> {
     encode(&events)
 }
 
+/// The bytes of a recording in which task 0 nests lock 1 in lock 0, task 1 lock 2 in lock 1, and so on round
+/// a ring of so many tasks, one after another.
+pub fn ring(tasks: usize) -> Vec<u8> {
+    let nests = |task: usize, next: usize| format!("T{task} a{task} a{next} r{next} r{task}");
+    let parts: Vec<String> = (0..tasks).map(|task| nests(task, (task + 1) % tasks)).collect();
+    row(&parts.join(", "))
+}
+
+/// The only pattern of that recording, each task's second acquire: 2, 6, 10 and so on.
+fn ring_pattern(tasks: usize) -> Vec<usize> {
+    (0..tasks).map(|task| 4 * task + 2).collect()
+}
+
 /// The bytes of a recording of n events of which h leave lock 0 held: T0 a0, W0 as often as it takes, r0
 /// and W0 again.
 fn held(h: usize, n: usize) -> Vec<u8> {
@@ -146,10 +184,10 @@ fn starts_with_only(out: &[u8], expected: &[u8]) -> bool {
     out.starts_with(expected) && out[expected.len()..].iter().all(|&byte| byte == 7)
 }
 
-/// Whether the listing into so many bytes is refused with 13 and leaves them as they were.
-fn refuses_unchanged(recording: &[u8], size: u64, room: usize) -> bool {
+/// Whether the listing into so many bytes is refused with this number and leaves them as they were.
+fn refuses_unchanged(number: u64, recording: &[u8], size: u64, room: usize) -> bool {
     let mut out = vec![7; room];
-    list(recording, size, &mut out) == Err(Refusal::without_event(13)) && starts_with_only(&out, &[])
+    list(recording, size, &mut out) == Err(Refusal::without_event(number)) && starts_with_only(&out, &[])
 }
 
 /// Whether the closure of the first events is the second ones.

@@ -192,10 +192,14 @@ fn step(random: &mut Random, walk: &Walk, task: usize, held: &mut Vec<usize>, bu
     release(task, held.remove(index))
 }
 
-/// Task i nests lock i and lock i + 1 round a ring, many times with one task after another, or a few
-/// times with turns, accesses and guards.
+/// Task i nests lock i and lock i + 1 round a ring, often of few tasks and at times of all, many times with
+/// one task after another, or a few times with turns, accesses and guards.
 fn ring(random: &mut Random, limit: usize) -> Vec<Event> {
-    let size = if random.chance(60) { random.between(2, TASKS) } else { random.between(2, 5) };
+    let size = match random.below(10) {
+        0 => TASKS,
+        1..=5 => random.between(2, TASKS),
+        _ => random.between(2, 5),
+    };
     let plain = random.chance(40);
     let most_rounds = if plain { LONGEST } else { [40, 20, 9, 5, 3, 2][size.min(7) - 2] };
     let rounds = (limit / (4 * size)).clamp(1, most_rounds);

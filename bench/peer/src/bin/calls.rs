@@ -86,16 +86,16 @@ fn closure(rec: &[u8], file: &str, events: usize) {
     ]);
 }
 
-/// The listing of pairs: its bytes.
-fn listing(rec: &[u8], file: &str) -> Vec<u8> {
+/// The listing with a largest size, 0 for all: its bytes.
+fn listing(rec: &[u8], file: &str, size: u64) -> Vec<u8> {
     let mut out = vec![0u8; 65_536];
     let (mut out2, mut out3) = (out.clone(), out.clone());
-    line("list, size 2", file, [
-        &mut || unsafe { hidzvoma_list(rec.as_ptr(), rec.len(), 2, out.as_mut_ptr(), out.len()) },
-        &mut || second::list(rec, 2, &mut out2).unwrap().bytes,
-        &mut || peer::listing(rec, 2, &mut out3).unwrap().bytes,
+    line(&format!("list, size {size}"), file, [
+        &mut || unsafe { hidzvoma_list(rec.as_ptr(), rec.len(), size, out.as_mut_ptr(), out.len()) },
+        &mut || second::list(rec, size, &mut out2).unwrap().bytes,
+        &mut || peer::listing(rec, size, &mut out3).unwrap().bytes,
     ]);
-    out.truncate(second::list(rec, 2, &mut out2).unwrap().bytes as usize);
+    out.truncate(second::list(rec, size, &mut out2).unwrap().bytes as usize);
     out
 }
 
@@ -132,7 +132,8 @@ fn main() {
         let events = (rec.len() - 2) / 2;
         numbered(rec, file, events as u64);
         closure(rec, file, events);
-        let listed = listing(rec, file);
+        listing(rec, file, 0);
+        let listed = listing(rec, file, 2);
         if !listed.is_empty() {
             let middle = (listed.len() / 12) * 6 + 2;
             patterned(rec, file, &listed[middle..middle + 4]);

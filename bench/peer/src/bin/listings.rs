@@ -72,7 +72,7 @@ fn main() {
     for path in std::env::args().skip(1) {
         let rec = std::fs::read(&path).unwrap();
         let name = path.rsplit('/').next().unwrap();
-        for (size, room) in [(2, 65_536), (4, 65_536), (16, 65_536), (16, 2_000_000)] {
+        for (size, room) in [(2, 65_536), (4, 65_536), (0, 65_536), (0, 2_000_000)] {
             if room > 65_536 && !name.starts_with("ring5") {
                 continue;
             }

@@ -13,23 +13,23 @@ use Rattle.lockreport.proofs.report.Tie as tie
 
 -- The bytes that the listing says it wrote, in front of the output.
 front : (c : tie.Else1)
-    → let l = c .before .before .before .list in
-    (l .result .bytes ≤ length (l .last .1 .1 .0)) × Entries (take (l .result .bytes) (l .last .1 .1 .0))
+    → let l = c .before .before .before .list-pairs in
+    (l .result .bytes ≤ length (l .last .1 .0)) × Entries (take (l .result .bytes) (l .last .1 .0))
 front c =
-    let l = c .before .before .before .list in
+    let l = c .before .before .before .list-pairs in
     let buffer = c .before .before .before .before .before in
     let s = buffer .before .before .before in
-    listed-front (s .args .recording .now) (buffer .large-buffer .result) (l .last .1 .1 .0) 0 (l .result)
+    listed-front (s .args .recording .now) (buffer .large-buffer .result) (l .last .1 .0) 2 (l .result)
     (l .ensures .0) (l .ensures .1) (c .if1 .left)
 
 large-buffer-requires : tie.Need-large-buffer-requires
 large-buffer-requires c κs = search needs
 
-slice-aggregate-list : tie.Need-slice-aggregate-list
-slice-aggregate-list c = search needs
+slice-aggregate-list-pairs : tie.Need-slice-aggregate-list-pairs
+slice-aggregate-list-pairs c = search needs
 
-list-requires : tie.Need-list-requires
-list-requires c κs = search needs
+list-pairs-requires : tie.Need-list-pairs-requires
+list-pairs-requires c κs = search needs
 
 put-refusal-requires : tie.Need-put-refusal-requires
 put-refusal-requires c κs = search needs
@@ -46,15 +46,15 @@ array-share-prefix-out c = front (c .before) .0
 
 slice-aggregate-put-listing : tie.Need-slice-aggregate-put-listing
 slice-aggregate-put-listing c =
-    let l = c .before .before .before .before .before .list in
-    sym (length-take-le (l .result .bytes) (l .last .1 .1 .0) (front (c .before .before) .0))
+    let l = c .before .before .before .before .before .list-pairs in
+    sym (length-take-le (l .result .bytes) (l .last .1 .0) (front (c .before .before) .0))
 
 put-listing-requires : tie.Need-put-listing-requires
 put-listing-requires c κs =
-    let l = c .before .before .before .before .before .list in
+    let l = c .before .before .before .before .before .list-pairs in
     let buffer = c .before .before .before .before .before .before .before .large-buffer in (
       front (c .before .before) .1,
-      omega (arith, length-take (l .result .bytes) (l .last .1 .1 .0), l .kept, buffer .ensures),
+      omega (arith, length-take (l .result .bytes) (l .last .1 .0), l .kept, buffer .ensures),
     )
 
 same-length-2 : tie.Need-same-length-2
@@ -69,8 +69,8 @@ report-spec =
     tie.close
     (tie.spec
     large-buffer-requires
-    slice-aggregate-list
-    list-requires
+    slice-aggregate-list-pairs
+    list-pairs-requires
     put-refusal-requires
     same-length
     returns
