@@ -48,9 +48,9 @@ extern "C" {
 #endif
 
 /* Lists every deadlock pattern of at most `largest` events whose verdict is deadlock, once, smaller first by
- * the first event number that differs. 0 stands for 16, which no pattern exceeds: with it patterns of all sizes
- * are listed. Each is an entry in `out`, one behind the other: its size, and then its events, so 2 * (k + 1)
- * bytes for k events.
+ * the first event number that differs. 0 stands for 16, which no pattern exceeds, so a call with 0 lists
+ * patterns of all sizes. Each is an entry in `out`, one behind the other: its size, and then its events, so
+ * 2 * (k + 1) bytes for k events.
  *
  * A caller that wants pairs alone passes 2; with 0 it reads the size of each entry, which need not be 2. All
  * sizes can need far more bytes than pairs do (13 where `out` is too short for them), and far more time:

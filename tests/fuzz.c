@@ -181,7 +181,7 @@ static bool is_size(uint64_t largest) {
 }
 
 /* How many events an entry may have: 0 stands for 16. */
-static size_t most_events_of_entry(uint64_t largest) {
+static size_t most_of_entry(uint64_t largest) {
     return largest == 0 ? 16 : (size_t)largest;
 }
 
@@ -506,7 +506,7 @@ static void check_listing(struct bytes recording, uint64_t largest, struct bytes
         expect(listing.length - at >= 2, "a listing with bytes behind its last entry");
         size_t size = number(listing.at + at);
         struct bytes pattern = {listing.at + at + 2, 2 * size};
-        expect(2 <= size && size <= most_events_of_entry(largest), "an entry of a size that is not permitted");
+        expect(2 <= size && size <= most_of_entry(largest), "an entry of a size that is not permitted");
         expect(2 + pattern.length <= listing.length - at, "a listing that ends within an entry");
         tried.pattern = pattern;
         expect(is_pattern(recording, pattern), "an entry that is no pattern");
@@ -541,8 +541,9 @@ static void check_default(struct bytes recording, struct bytes listing, uint64_t
 /* A largest size, mostly a permitted one; a small one for a long walk, of which larger patterns take long to
  * list. */
 static uint64_t any_largest(size_t events) {
-    static const uint64_t wrong[] = {1, 17, 18, 256, 258, 65536, 65538, (uint64_t)1 << 32, (uint64_t)1 << 32 | 2,
-                                     UINT64_MAX};
+    static const uint64_t wrong[] = {
+        1, 17, 18, 256, 258, 65536, 65538, (uint64_t)1 << 32, (uint64_t)1 << 32 | 2, UINT64_MAX,
+    };
     if (chance(8))
         return wrong[below(sizeof wrong / sizeof *wrong)];
     if (events > 400)
@@ -560,8 +561,8 @@ static size_t any_length(void) {
 }
 
 /* Lists a recording into an output of any length, and where that is refused with 13, into the longest one;
- * sees that the listing, if there is one, is right, and needs its length, and that 0 stands for 16. Returns the
- * last number; the listing becomes the bytes written. */
+ * sees that the listing, if there is one, is right, and needs its length, and that 0 stands for 16. Returns
+ * the last number; the listing becomes the bytes written. */
 static uint64_t try_listing(struct bytes recording, uint64_t largest, struct bytes *listing) {
     size_t length = any_length();
     uint64_t n = list(recording, largest, (struct bytes){listing->at, length});
@@ -691,7 +692,7 @@ static void try_patterns(struct bytes recording, uint64_t largest, uint64_t list
     for (size_t left = 4; left > 0; left--) {
         put_pattern(recording, listing, &pattern);
         uint64_t n = verdict(recording, pattern);
-        if (listed % 2 == 0 && pattern.length <= 2 * most_events_of_entry(largest))
+        if (listed % 2 == 0 && pattern.length <= 2 * most_of_entry(largest))
             expect((n == 2) == lists(listing, pattern), "a verdict that the listing contradicts");
     }
 }

@@ -14,7 +14,7 @@ fn refused(refusal: u64, event: u64) -> u64
     2 * (65536 * refusal + event) + 1
 }
 
-// The listing: the bytes written, which are even in number, or a refusal.
+// The listing, with the size as it is given: the bytes written, which are even in number, or a refusal.
 #[no_mangle]
 pub extern "C" fn hidzvoma_list(recording: &[u8], largest: u64, out: &mut [u8]) -> u64
     ensures number { λ r. ⌜ r ≡ listEntry (now (recording .entry)) largest (length (now (out .entry))) ⌝ }

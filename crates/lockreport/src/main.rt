@@ -1,4 +1,5 @@
-// The program lockreport: lists the deadlocks of the recording on standard input, and prints them as text.
+// The program lockreport: lists the deadlocks of two events of the recording on standard input, and prints
+// them as text.
 // `text` is what is printed, made as a whole before it is written; its lines are executed and compared.
 ghost use Prim.Native.Nat.{_+_, _*_, _/_, _≤_, _<_};
 ghost use mathlib.Core.Path.{_≡_};

@@ -21,8 +21,8 @@ ring =
     ++ by 3 (acq 3 ∷ acq 0 ∷ []))
 
 -- A ring of three tasks and a pair: T0 a0 a1 r1 r0, T1 a1 a2 r2 a0 r0, T2 a2 a0.
-abbrev pub mixed : List ℕ
-mixed =
+abbrev pub ringAndPair : List ℕ
+ringAndPair =
     recording
     (by 0 (acq 0 ∷ acq 1 ∷ rel 1 ∷ rel 0 ∷ [])
     ++ by 1 (acq 1 ∷ acq 2 ∷ rel 2 ∷ acq 0 ∷ rel 0 ∷ [])
@@ -30,35 +30,37 @@ mixed =
 
 -- All samples of sizes.
 pub record SampleSizes : Type 0 where
-  -- 0 is replaced, and nothing else is.
-  pub zero : largestSize 0 ≡ 16
-  pub two : largestSize 2 ≡ 2
-  pub fifteen : largestSize 15 ≡ 15
-  -- 0 and 16 are one size for every recording, whose events are not known here.
+  -- 0 is replaced; 2 and 15 stay.
+  pub zero-replaced : largestSize 0 ≡ 16
+  pub two-kept : largestSize 2 ≡ 2
+  pub fifteen-kept : largestSize 15 ≡ 15
+  -- 0 and 16 list the same, for every recording.
   pub same : (b : List ℕ) → listing b 0 ≡ listing b 16
   -- A deadlock of four tasks.
   pub four : listing ring 0 ≡ (2 ∷ 5 ∷ 8 ∷ 12 ∷ []) ∷ []
   pub four-three : listing ring 3 ≡ []
   -- Entries of several sizes, by the first number that differs, in the call and in the entry for C.
-  pub all-sizes : listOut mixed 0 (blank 15) ≡ encode (3 ∷ 2 ∷ 6 ∷ 11 ∷ 2 ∷ 2 ∷ 8 ∷ []) ++ blank 1
-  pub pairs : listOut mixed 2 (blank 7) ≡ encode (2 ∷ 2 ∷ 8 ∷ []) ++ blank 1
-  pub counted : list mixed 0 14 ≡ record { refusal = 0; event = 0; patterns = 2; bytes = 14 }
-  pub unfit : list mixed 0 13 ≡ record { refusal = 13; event = 0; patterns = 0; bytes = 0 }
-  pub entry : listEntry mixed 0 14 ≡ 14
+  pub all-sizes : listOut ringAndPair 0 (blank 15) ≡ encode (3 ∷ 2 ∷ 6 ∷ 11 ∷ 2 ∷ 2 ∷ 8 ∷ []) ++ blank 1
+  pub pairs : listOut ringAndPair 2 (blank 7) ≡ encode (2 ∷ 2 ∷ 8 ∷ []) ++ blank 1
+  pub counted : list ringAndPair 0 14 ≡ record { refusal = 0; event = 0; patterns = 2; bytes = 14 }
+  pub counted-16 : list ringAndPair 16 14 ≡ record { refusal = 0; event = 0; patterns = 2; bytes = 14 }
+  pub unfit : list ringAndPair 0 13 ≡ record { refusal = 13; event = 0; patterns = 0; bytes = 0 }
+  pub entry : listEntry ringAndPair 0 14 ≡ 14
 
 -- Every sample of sizes holds, by computation.
 pub sampleSizes : SampleSizes
 unfolding opened entryNumber listEntry
 sampleSizes = record {
-  zero = refl;
-  two = refl;
-  fifteen = refl;
+  zero-replaced = refl;
+  two-kept = refl;
+  fifteen-kept = refl;
   same = λ b. refl;
   four = refl;
   four-three = refl;
   all-sizes = refl;
   pairs = refl;
   counted = refl;
+  counted-16 = refl;
   unfit = refl;
   entry = refl;
 }

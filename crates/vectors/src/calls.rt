@@ -52,7 +52,7 @@ pub fn tell_close(recording: &[u8], set: &mut [u8], text: &mut [u8], at: usize) 
     text::put_lending(text, at, &fields, set)
 }
 
-// Lists the deadlocks of at most `size` events.
+// Lists the deadlocks of at most `size` events, 0 for 16.
 pub fn tell_list(recording: &[u8], size: u64, out: &mut [u8], text: &mut [u8], at: usize) -> usize
     requires { ⌜ (length (now out) ≤ bytesLength) × (at + answerLength ≤ length (now text)) ⌝ }
     ensures { λ r. ⌜ r ≤ at + answerLength ⌝ }
