@@ -22,18 +22,26 @@ use Rattle.laws.proofs.Tests.{parts, is-true, is-false, tests}
 use Rattle.laws.proofs.Bytes.{numbers-length}
 use Rattle.laws.proofs.Pattern.{isPattern-iff}
 use Rattle.laws.proofs.Trace.{isEvent-iff, decodeAll-length}
-use Rattle.laws.proofs.Faults.{isAcquire-op}
+use Rattle.laws.proofs.Faults.{isAcquire-none}
+use Rattle.laws.proofs.WellFormed.{WellFormed, acquire-outer}
 use Rattle.laws.proofs.Search.{completing-cons, completing-end, pattern-completing}
 use Rattle.deadlock.specs.Judged.{joins}
 
 -- ---- one event
 
-module _ (σ : Trace) (last tasks guards e : ℕ) {op : ℕ} (is-op : op ≡ at σ e .op) where
-  -- No acquire fits.
+module _ (σ : Trace) (ok : WellFormed σ) (last tasks guards e : ℕ) {op : ℕ} (is-op : op ≡ at σ e .op) where
+  -- What is no acquire does not fit.
   pub fits-acquire : op ≢ 2 → false ≡ fits (signature σ) (chainOf 0 last tasks guards) e
-  fits-acquire d = rw (isAcquire-op σ e is-op, ne-eqb op 2 d)
+  fits-acquire d = rw (isAcquire-none σ e is-op d)
 
-  module _ {h : ℕ} (is-held : h ≡ held σ e) where
+  module _ {h o : ℕ} (is-held : h ≡ held σ e) (is-object : o ≡ object σ e) where
+    outer : op ≡ 2 → hasBit h o ≡ false → isAcquire σ e ≡ true
+    outer a n = acquire-outer σ ok e op is-op ∙ rw (← is-held, ← is-object, n, eq-eqb op 2 a)
+
+    -- Nor does an inner acquire, whose own lock is held.
+    pub fits-own : op ≡ 2 → hasBit h o ≡ true → false ≡ fits (signature σ) (chainOf 0 last tasks guards) e
+    fits-own a y = rw (acquire-outer σ ok e op is-op, ← is-held, ← is-object, y, eq-eqb op 2 a)
+
     -- The last event's lock must be held.
     pub fits-lock : hasBit h (object σ last) ≡ false
         → false ≡ fits (signature σ) (chainOf 0 last tasks guards) e
@@ -45,9 +53,10 @@ module _ (σ : Trace) (last tasks guards e : ℕ) {op : ℕ} (is-op : op ≡ at 
       fits-task y = rw (← is-task, y, and-false)
 
       -- The rest is that no guard is held.
-      pub fits-guards : op ≡ 2 → hasBit h (object σ last) ≡ true → hasBit tasks t ≡ false
+      pub fits-guards : op ≡ 2 → hasBit h o ≡ false → hasBit h (object σ last) ≡ true
+          → hasBit tasks t ≡ false
           → eqb (bitAnd guards h) 0 ≡ fits (signature σ) (chainOf 0 last tasks guards) e
-      fits-guards a y n = rw (isAcquire-op σ e is-op, a, ← is-held, ← is-task, y, n)
+      fits-guards a x y n = rw (outer a x, ← is-held, ← is-task, y, n)
 
 -- ---- the next event of a chain
 

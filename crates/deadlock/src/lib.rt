@@ -49,8 +49,10 @@ pub fn with_task(records: &[u8], tasks: u64, e: usize) -> u64
     tasks | (1 << (recording::task(records, e) as u64))
 }
 
-// The number e is that of an acquire.
-fn is_acquire(records: &[u8], e: usize) -> bool
+// The number e is that of an outer acquire: its own lock is not among the held ones.
+fn is_acquire(records: &[u8], holding: &[u64], e: usize) -> bool
+    requires { ⌜ (length (now records) ≤ recordsLength) × (checkEvents (decodeAll (now records)) .refusal ≡ 0)
+        × Holding (decodeAll (now records)) (now holding) ⌝ }
     ensures { λ r. ⌜ r ≡ (isEvent (decodeAll (now (records .entry))) e
         && isAcquire (decodeAll (now (records .entry))) e) ⌝ }
 {
@@ -60,7 +62,10 @@ fn is_acquire(records: &[u8], e: usize) -> bool
     if records.len() / 2 < e {
         return false;
     }
-    recording::operation(records, e) == 2
+    if recording::operation(records, e) != 2 {
+        return false;
+    }
+    !in_mask(holding[e], recording::object(records, e) as u64)
 }
 
 // Event e may follow a chain that ends with the acquire `last`, of these tasks and with these held locks: its
@@ -83,6 +88,9 @@ pub fn follows(
         return false;
     }
     let held = holding[e];
+    if in_mask(held, recording::object(records, e) as u64) {
+        return false;
+    }
     if !lock_in_mask(records, held, last) {
         return false;
     }
@@ -162,7 +170,7 @@ pub fn lends_pattern(records: &[u8], holding: &[u64], pattern: &[u8]) -> bool
         return false;
     }
     let a = recording::number(pattern, 0) as usize;
-    if !is_acquire(records, a) {
+    if !is_acquire(records, holding, a) {
         return false;
     }
     completes(records, holding, pattern, a)

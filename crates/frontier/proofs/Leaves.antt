@@ -1,18 +1,21 @@
 -- What visiting an event leaves, by its operation and the latest acquire of its lock, and what it reads.
 -- Assumes nothing.
 use Prim.Native.Nat.{ℕ, _*_, _≤_, min}
-use mathlib.Core.Path.{_≡_, refl}
+use mathlib.Core.Path.{_≡_, refl, _∙_}
+use mathlib.Core.Bool.{true, false}
 use mathlib.Core.Logic.{_≢_}
 use mathlib.Core.List.{List}
 use native.Mathlib.Omega.{arith}
 use lib.ListN.{length, getD}
 use borrow.Author.Tests.{eq-eqb, ne-eqb}
-use Rattle.model.specs.Trace.{Trace, at, task, object}
-use Rattle.model.specs.Relations.{writer, matching}
+use Rattle.model.specs.Trace.{Trace, at, task, object, isRead, isAcquire}
+use Rattle.model.specs.Relations.{writer}
+use Rattle.laws.specs.EventKinds.{marked}
+use Rattle.laws.proofs.Marks.{isAcquire-marked}
 use Rattle.model.specs.Recording.{decodeAll}
 use Rattle.laws.specs.Frontier.{raised}
 use Rattle.laws.proofs.Relations.{writer-below}
-use Rattle.laws.proofs.Faults.{isRead-op, isAcquire-op}
+use Rattle.laws.proofs.Faults.{isRead-op, isAcquire-none}
 use Rattle.frontier.specs.Visit.{wantedWriter, wantedEarlier, latestWith, wantedWith}
 
 -- ---- by the operation
@@ -22,25 +25,49 @@ abbrev pub Leaves : Trace → ℕ → List ℕ → List ℕ → List ℕ → Lis
 Leaves σ f want latest want′ latest′ =
     (want′ ≡ wantedWith σ want latest f) × (latest′ ≡ latestWith σ latest f)
 
-module _ (σ : Trace) (f : ℕ) {op : ℕ} (is-op : op ≡ at σ f .op) (want latest : List ℕ) where
+module _ (σ : Trace) (f : ℕ) (want latest : List ℕ) where
   -- A read wants its writer.
-  pub read-leaves : op ≡ 0 → {want′ : List ℕ} → want′ ≡ wantedWriter σ want f
-      → Leaves σ f want latest want′ latest
+  pub read-leaves : isRead σ f ≡ true → isAcquire σ f ≡ false → {want′ : List ℕ}
+      → want′ ≡ wantedWriter σ want f → Leaves σ f want latest want′ latest
   unfolding wantedWith latestWith
-  read-leaves a w = rw (isRead-op σ f is-op, isAcquire-op σ f is-op, a) (w, refl)
+  read-leaves r a w = rw (r, a) (w, refl)
 
-  -- An acquire is noted, and the match of the earlier one is wanted.
-  pub acquire-leaves : op ≡ 2 → {want′ latest′ : List ℕ}
+  -- An outer acquire is noted, and the match of the earlier one is wanted.
+  pub acquire-leaves : isRead σ f ≡ false → isAcquire σ f ≡ true → {want′ latest′ : List ℕ}
       → (want′ ≡ wantedEarlier σ want (getD latest (object σ f) 0) f)
       × (latest′ ≡ raised latest (object σ f) f)
       → Leaves σ f want latest want′ latest′
   unfolding wantedWith latestWith
-  acquire-leaves a q = rw (isRead-op σ f is-op, isAcquire-op σ f is-op, a) q
+  acquire-leaves r a q = rw (r, a) q
 
-  -- A write or a release changes nothing.
-  pub neither : op ≢ 0 → op ≢ 2 → Leaves σ f want latest want latest
+  -- Another event changes nothing.
+  pub neither : isRead σ f ≡ false → isAcquire σ f ≡ false → Leaves σ f want latest want latest
   unfolding wantedWith latestWith
-  neither a b = rw (isRead-op σ f is-op, isAcquire-op σ f is-op, ne-eqb op 0 a, ne-eqb op 2 b) (refl, refl)
+  neither r a = rw (r, a) (refl, refl)
+
+module _ (σ : Trace) (f : ℕ) (event : 1 ≤ f) {op m : ℕ} (is-op : op ≡ at σ f .op) (is-match : m ≡ marked σ f)
+  where
+    -- A read by its operation,
+    pub by-read : op ≡ 0 → (isRead σ f ≡ true) × (isAcquire σ f ≡ false)
+    by-read a = (isRead-op σ f is-op ∙ eq-eqb op 0 a, isAcquire-none σ f is-op (omega arith))
+
+    -- what is no read and no acquire,
+    pub by-other : op ≢ 0 → op ≢ 2 → (isRead σ f ≡ false) × (isAcquire σ f ≡ false)
+    by-other a b = (isRead-op σ f is-op ∙ ne-eqb op 0 a, isAcquire-none σ f is-op b)
+
+    -- an inner acquire,
+    pub by-inner : op ≡ 2 → m ≡ f → (isRead σ f ≡ false) × (isAcquire σ f ≡ false)
+    by-inner a b = (
+      isRead-op σ f is-op ∙ ne-eqb op 0 (omega arith),
+      isAcquire-marked σ f op is-op event ∙ rw (← is-match, eq-eqb op 2 a, eq-eqb m f b),
+    )
+
+    -- and an outer one.
+    pub by-outer : op ≡ 2 → m ≢ f → (isRead σ f ≡ false) × (isAcquire σ f ≡ true)
+    by-outer a b = (
+      isRead-op σ f is-op ∙ ne-eqb op 0 (omega arith),
+      isAcquire-marked σ f op is-op event ∙ rw (← is-match, eq-eqb op 2 a, ne-eqb m f b),
+    )
 
 -- ---- the writer of a read
 
@@ -70,6 +97,6 @@ module _ (σ : Trace) (want : List ℕ) (top f : ℕ) where
 
   -- The match of the earlier one is wanted.
   pub earlier-some : top ≢ 0 → {e : ℕ} → e ≡ min top f
-      → wantedEarlier σ want top f ≡ raised want (task σ e) (matching σ e)
+      → wantedEarlier σ want top f ≡ raised want (task σ e) (marked σ e)
   unfolding wantedEarlier
   earlier-some d q = rw (ne-eqb top 0 d, q)

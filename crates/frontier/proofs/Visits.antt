@@ -2,7 +2,7 @@
 use Prim.Native.Nat.{ℕ, _≤_, _<_, min}
 use mathlib.Core.Path.{_≡_, refl, sym, _∙_}
 use mathlib.Core.Logic.{⊎-elim, _≢_}
-use mathlib.Core.Bool.{false}
+use mathlib.Core.Bool.{true, false}
 use mathlib.Core.List.{List}
 use native.Mathlib.Omega.{arith}
 use lib.Dec.{T}
@@ -12,11 +12,13 @@ use Rattle.model.specs.Trace.{Trace, tasks, locks, at, task, object, isRead, is
 use Rattle.model.specs.Relations.{predecessor, writer, matching}
 use Rattle.model.specs.Closed.{Again}
 use Rattle.laws.specs.Frontier.{Frontier, Behind, Visited, Advancing, Entails, raised}
-use Rattle.laws.proofs.Tests.{or-l, is-true, equal?, at-most?}
+use Rattle.laws.proofs.Tests.{or-l, is-true, decided, equal?, at-most?}
 use Rattle.laws.proofs.Trace.{sameObject-iff}
 use Rattle.laws.proofs.Relations.{writer-below, writer-read}
+use Rattle.laws.proofs.Relations as laws
 use Rattle.laws.proofs.Relations.{matching-below}
-use Rattle.laws.proofs.Faults.{isRead-op, isAcquire-op}
+use Rattle.laws.proofs.Faults.{isRead-op, isAcquire-none}
+use Rattle.laws.proofs.Marks.{marked-acquire}
 use Rattle.laws.proofs.Frontier.{raised-grows, raised-reaches, raised-frontier}
 use Rattle.laws.proofs.WellFormed.{WellFormed, lock-lt, matching-between, matching-task}
 use Rattle.laws.proofs.Advancing.{visit-other, visit-earlier, visit-later}
@@ -24,6 +26,12 @@ use Rattle.laws.proofs.Reached.{writer-entailed, match-entailed}
 use Rattle.frontier.specs.Visit.{latestWith, wantedWith}
 use Rattle.frontier.proofs.Leaves.{Leaves, read-leaves, acquire-leaves, neither, writer-none}
 use Rattle.frontier.proofs.Leaves.{writer-some, earlier-none, earlier-some}
+
+-- An outer acquire is no read.
+acquire-unread : (σ : Trace) (f : ℕ) → T (isAcquire σ f) → isRead σ f ≡ false
+acquire-unread σ f a =
+    ⊎-elim (λ (q : at σ f .op ≡ 0). absurd (rw (isAcquire-none σ f refl (omega arith)) at a))
+    (λ (d : at σ f .op ≢ 0). isRead-op σ f refl ∙ ne-eqb (at σ f .op) 0 d) (equal? (at σ f .op) 0)
 
 -- What is known after a visit of event f.
 pub record Visiting (σ : Trace) (front want want′ latest′ : List ℕ) (t old f : ℕ) : Type 0 where
@@ -185,49 +193,49 @@ module _ (σ : Trace) (ok : WellFormed σ) (front want latest : List ℕ) (t old
 
   -- A visit of event f brings the frontier on.
   pub visiting : Visiting σ front want (wantedWith σ want latest f) (latestWith σ latest f) t old f
-  visiting = ⊎-elim read (λ d. ⊎-elim (acquired d) (other d) (equal? (at σ f .op) 2)) (equal? (at σ f .op) 0)
+  visiting =
+      decided (isAcquire σ f) acquired
+      (λ n. decided (isRead σ f) (read n) (λ d. leaves want latest (neither σ f want latest d n) (kept (unread d) n)))
     where
       leaves : (want′ latest′ : List ℕ) → Leaves σ f want latest want′ latest′
           → Visiting σ front want want′ latest′ t old f
           → Visiting σ front want (wantedWith σ want latest f) (latestWith σ latest f) t old f
       leaves want′ latest′ q v = rw (q .0, q .1) at v
 
-      no-acquire : at σ f .op ≢ 2 → isAcquire σ f ≡ false
-      no-acquire d = isAcquire-op σ f refl ∙ ne-eqb (at σ f .op) 2 d
+      unread : isRead σ f ≡ false → writer σ f ≡ 0
+      unread d = laws.writer-none σ f d
 
-      unread : at σ f .op ≢ 0 → writer σ f ≡ 0
-      unread d =
-          ⊎-elim (λ q. q) (λ w. absurd (d (eqb-true (at σ f .op) 0
-          (sym (isRead-op σ f refl) ∙ is-true (isRead σ f) (writer-read σ f w))))) (equal? (writer σ f) 0)
-
-      read : at σ f .op ≡ 0 → Visiting σ front want (wantedWith σ want latest f) (latestWith σ latest f) t
-          old f
-      read a =
-          let c = no-acquire (omega arith) in
-          leaves _ latest (read-leaves σ f refl want latest a refl)
+      read : isAcquire σ f ≡ false → isRead σ f ≡ true
+          → Visiting σ front want (wantedWith σ want latest f) (latestWith σ latest f) t old f
+      read c a =
+          leaves _ latest (read-leaves σ f want latest a c refl)
           (⊎-elim (λ n. rw (writer-none σ want f refl n) (kept n c))
           (λ d. rw (writer-some σ want f refl d) (written d c)) (equal? (writer σ f) 0))
 
-      other : at σ f .op ≢ 0 → at σ f .op ≢ 2
+      acquired : isAcquire σ f ≡ true
           → Visiting σ front want (wantedWith σ want latest f) (latestWith σ latest f) t old f
-      other d b = leaves want latest (neither σ f refl want latest d b) (kept (unread d) (no-acquire b))
-
-      acquired : at σ f .op ≢ 0 → at σ f .op ≡ 2
-          → Visiting σ front want (wantedWith σ want latest f) (latestWith σ latest f) t old f
-      acquired d a =
-          leaves _ _ (acquire-leaves σ f refl want latest a (refl, refl))
+      acquired a =
+          leaves _ _ (acquire-leaves σ f want latest none a (refl, refl))
           (⊎-elim
           (λ n. rw (earlier-none σ want top f n, lt-ltb top f (omega (arith, at-f .event)))
-          (first acquire (unread d) n))
+          (first acquire (unread none) n))
           (λ x. ⊎-elim
           (λ (b : f ≤ top). let q : f ≡ min top f = omega arith in
-          rw (earlier-some σ want top f x q, le-ltb top f b) (earlier acquire (unread d) x b))
+          rw (earlier-some σ want top f x q, le-ltb top f b, marked-acquire σ f acquire)
+          (earlier acquire (unread none) x b))
           (λ (b : top < f). let q : top ≡ min top f = omega arith in
-          rw (earlier-some σ want top f x q, lt-ltb top f b) (later acquire (unread d) x b))
+          rw (
+            earlier-some σ want top f x q,
+            lt-ltb top f b,
+            marked-acquire σ top (at-top acquire (unread none) x .1),
+          ) (later acquire (unread none) x b))
           (at-most? f top)) (equal? top 0))
         where
           top : ℕ
           top = getD latest (object σ f) 0
 
           acquire : T (isAcquire σ f)
-          acquire = rw (isAcquire-op σ f refl, a) tt
+          acquire = rw a tt
+
+          none : isRead σ f ≡ false
+          none = acquire-unread σ f acquire

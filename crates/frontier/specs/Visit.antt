@@ -7,7 +7,8 @@ use mathlib.Core.List.{List}
 use lib.Dec.{eqb}
 use lib.ListN.{length, getD}
 use Rattle.model.specs.Trace.{Trace, task, object, isRead, isAcquire}
-use Rattle.model.specs.Relations.{predecessor, writer, matching}
+use Rattle.model.specs.Relations.{predecessor, writer}
+use Rattle.laws.specs.EventKinds.{marked}
 use Rattle.laws.specs.Sizes.{tableLength}
 use Rattle.laws.specs.Frontier.{raised}
 
@@ -16,7 +17,7 @@ pub record Reading (σ : Trace) (writers matches : List ℕ) : Type 0 where
   pub writer-long : length writers ≡ tableLength
   pub matching-long : length matches ≡ tableLength
   pub writer-at : (e : ℕ) → 1 ≤ e → e ≤ length σ → getD writers e 0 ≡ writer σ e
-  pub matching-at : (e : ℕ) → 1 ≤ e → e ≤ length σ → getD matches e 0 ≡ matching σ e
+  pub matching-at : (e : ℕ) → 1 ≤ e → e ≤ length σ → getD matches e 0 ≡ marked σ e
 
 -- The tables that a closure needs.
 pub record Needed (σ : Trace) (predecessors writers matches : List ℕ) : Type 0 where
@@ -31,7 +32,7 @@ wantedWriter σ want f = cond (eqb (writer σ f) 0) want (raised want (task σ (
 -- The wanted events with the match of the earlier one of two acquires, `top` and f, unless `top` is 0.
 unfoldable pub wantedEarlier : Trace → List ℕ → ℕ → ℕ → List ℕ
 wantedEarlier σ want top f =
-    cond (eqb top 0) want (raised want (task σ (min top f)) (matching σ (min top f)))
+    cond (eqb top 0) want (raised want (task σ (min top f)) (marked σ (min top f)))
 
 -- The wanted events with what event f needs: the writer of a read; of an acquire and the latest one of its
 -- lock, the match of the earlier one.

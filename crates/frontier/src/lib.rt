@@ -5,7 +5,8 @@ ghost use mathlib.Core.Path.{_≡_};
 ghost use lib.ListN.{length, getD};
 ghost use lib.Dec.{leb};
 ghost use Rattle.model.specs.Trace.{tasks, locks, task, object};
-ghost use Rattle.model.specs.Relations.{predecessor, writer, matching};
+ghost use Rattle.model.specs.Relations.{predecessor, writer};
+ghost use Rattle.laws.specs.EventKinds.{marked};
 ghost use Rattle.model.specs.Recording.{decodeAll};
 ghost use Rattle.model.specs.Calls.Check.{checkEvents};
 ghost use Rattle.laws.specs.Sizes.{recordsLength};
@@ -36,9 +37,9 @@ fn earlier(a: u16, b: u16) -> u16
 // Wants the match of acquire e, which is an event of the same task.
 fn want_match(records: &[u8], matches: &[u16], want: &mut [u16], e: u16)
     requires { ⌜ (1 ≤ e) × (2 * e ≤ length (now records)) × (e < length (now matches))
-        × (getD (now matches) e 0 ≡ matching (decodeAll (now records)) e) × (length (now want) ≡ tasks) ⌝ }
+        × (getD (now matches) e 0 ≡ marked (decodeAll (now records)) e) × (length (now want) ≡ tasks) ⌝ }
     ensures { λ r. ⌜ now (want .exit) ≡ raised (now (want .entry))
-        (task (decodeAll (now (records .entry))) e) (matching (decodeAll (now (records .entry))) e) ⌝ }
+        (task (decodeAll (now (records .entry))) e) (marked (decodeAll (now (records .entry))) e) ⌝ }
 {
     let at = e as usize;
     raise(want, recording::task(records, at) as usize, matches[at]);
@@ -63,7 +64,7 @@ fn visit_read(records: &[u8], writers: &[u16], want: &mut [u16], f: u16)
 fn visit_acquire(records: &[u8], matches: &[u16], want: &mut [u16], latest: &mut [u16], f: u16)
     requires { ⌜ (1 ≤ f) × (2 * f ≤ length (now records)) × (f < length (now matches))
         × ((e : ℕ) → 1 ≤ e → e ≤ length (decodeAll (now records))
-        → getD (now matches) e 0 ≡ matching (decodeAll (now records)) e)
+        → getD (now matches) e 0 ≡ marked (decodeAll (now records)) e)
         × (length (now want) ≡ tasks) × (length (now latest) ≡ locks)
         × (object (decodeAll (now records)) f < locks) ⌝ }
     ensures wanted { λ r. ⌜ now (want .exit) ≡ wantedEarlier (decodeAll (now (records .entry)))
@@ -80,7 +81,8 @@ fn visit_acquire(records: &[u8], matches: &[u16], want: &mut [u16], latest: &mut
     want_match(records, matches, want, earlier(top, f));
 }
 
-// Visits event f by its operation, as a read or as an acquire. A write or a release changes nothing.
+// Visits event f by its operation, as a read or as an outer acquire. A write, a release or an inner acquire,
+// which is marked by its own number, changes nothing.
 fn visit(
     records: &[u8],
     writers: &[u16],
@@ -102,9 +104,13 @@ fn visit(
         visit_read(records, writers, want, f);
         return;
     }
-    if op == 2 {
-        visit_acquire(records, matches, want, latest, f);
+    if op != 2 {
+        return;
     }
+    if matches[f as usize] == f {
+        return;
+    }
+    visit_acquire(records, matches, want, latest, f);
 }
 
 // A turn of task t: the frontier moves to its wanted event, and each event that it passes is visited.

@@ -11,7 +11,7 @@ use borrow.Author.Tests.{eqb-false}
 use Rattle.model.specs.declared.Outcome.{Outcome}
 use Rattle.model.specs.Recording.{format, eventCount, trace}
 use Rattle.model.specs.WellFormed.{isFree, fault, firstFault}
-use Rattle.model.specs.Trace.{Trace, locks, task, object, isRead, isAcquire, isRelease}
+use Rattle.model.specs.Trace.{Trace, locks, task, object, isRead, enters, leaves}
 use Rattle.model.specs.Relations.{writer, holds}
 use Rattle.model.specs.Bytes.{numbers, isWhole}
 use Rattle.model.specs.Pattern.{smallestPattern, largestPattern, isPattern}
@@ -46,9 +46,9 @@ then-small o p s t = cond-elim Small (isAccepted o) p o (λ y. t) (λ n. s)
 fault-le : (σ : Trace) (e : ℕ) → fault σ e ≤ 7
 unfolding fault
 fault-le σ e =
-    number ((isAcquire σ e || isRelease σ e) && not (ltb (object σ e) locks)) (isAcquire σ e && not (isFree σ
+    number ((enters σ e || leaves σ e) && not (ltb (object σ e) locks)) (enters σ e && not (isFree σ
     e))
-    (isRelease σ e && not (holds σ e (task σ e) (object σ e))) (isRead σ e && eqb (writer σ e) 0)
+    (leaves σ e && not (holds σ e (task σ e) (object σ e))) (isRead σ e && eqb (writer σ e) 0)
   where
     number : (a b c d : Bool) → cond a 4 (cond b 5 (cond c 6 (cond d 7 0))) ≤ 7
     number true b c d = omega arith

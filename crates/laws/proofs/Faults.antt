@@ -2,12 +2,13 @@
 use Prim.Native.Nat.{ℕ, _-_, _≤_, _<_}
 use mathlib.Core.Path.{_≡_}
 use mathlib.Core.Logic.{⊎-elim, _≢_}
-use mathlib.Core.Bool.{cond}
+use mathlib.Core.Bool.{false, cond, _&&_}
 use native.Mathlib.Omega.{arith}
 use lib.ListN.{length}
 use lib.Dec.{T, eqb, ltb, ltb→lt, lt→ltb}
 use borrow.Author.Tests.{eq-eqb, ne-eqb, lt-ltb, le-ltb}
-use Rattle.model.specs.Trace.{Trace, locks, at, task, object, isRead, isWrite, isAcquire, isRelease}
+use Rattle.model.specs.Trace.{Trace, locks, at, task, object, isRead, isWrite, enters, leaves}
+use Rattle.model.specs.Trace.{ownDepth, isAcquire, isRelease}
 use Rattle.model.specs.Relations.{holds, writer}
 use Rattle.model.specs.WellFormed.{isFree, fault, firstFault}
 use Rattle.model.specs.Calls.Questions.{outcome}
@@ -28,29 +29,47 @@ module _ (σ : Trace) (e : ℕ) {op : ℕ} (q : op ≡ at σ e .op) where
   unfolding isWrite
   isWrite-op = rw q
 
-  -- For an acquire.
-  pub isAcquire-op : isAcquire σ e ≡ eqb op 2
-  unfolding isAcquire
-  isAcquire-op = rw q
+  -- For an acquire, from whatever depth.
+  pub enters-op : enters σ e ≡ eqb op 2
+  unfolding enters
+  enters-op = rw q
 
-  -- For a release.
-  pub isRelease-op : isRelease σ e ≡ eqb op 3
+  -- For a release, to whatever depth.
+  pub leaves-op : leaves σ e ≡ eqb op 3
+  unfolding leaves
+  leaves-op = rw q
+
+  -- For an outer acquire also the depth.
+  pub isAcquire-op : isAcquire σ e ≡ (eqb op 2 && eqb (ownDepth σ e) 0)
+  unfolding isAcquire
+  isAcquire-op = rw enters-op
+
+  -- For an outer release.
+  pub isRelease-op : isRelease σ e ≡ (eqb op 3 && eqb (ownDepth σ e) 1)
   unfolding isRelease
-  isRelease-op = rw q
+  isRelease-op = rw leaves-op
+
+  -- Another operation is no outer acquire,
+  pub isAcquire-none : op ≢ 2 → isAcquire σ e ≡ false
+  isAcquire-none d = rw (isAcquire-op, ne-eqb op 2 d)
+
+  -- nor an outer release.
+  pub isRelease-none : op ≢ 3 → isRelease σ e ≡ false
+  isRelease-none d = rw (isRelease-op, ne-eqb op 3 d)
 
   -- 4: an acquire or release of what is no lock.
   pub fault-lock : 2 ≤ op → op ≤ 3 → locks ≤ object σ e → fault σ e ≡ 4
   unfolding fault
   fault-lock a b l =
-      rw (isAcquire-op, isRelease-op, le-ltb (object σ e) locks l)
+      rw (enters-op, leaves-op, le-ltb (object σ e) locks l)
       (⊎-elim (λ (z : op ≡ 2). rw (eq-eqb op 2 z))
       (λ (d : op ≢ 2). rw (ne-eqb op 2 d, eq-eqb op 3 (omega arith))) (equal? op 2))
 
-  -- 5: an acquire's lock is free.
+  -- 5: an acquire's lock is held by no other task.
   pub fault-acquire : op ≡ 2 → object σ e < locks → fault σ e ≡ cond (isFree σ e) 0 5
   unfolding fault
   fault-acquire a l =
-      rw (isAcquire-op, isRelease-op, isRead-op, lt-ltb (object σ e) locks l, a)
+      rw (enters-op, leaves-op, isRead-op, lt-ltb (object σ e) locks l, a)
       (decided (isFree σ e) (λ y. rw y) (λ y. rw y))
 
   -- 6: a release's lock is held by its task.
@@ -58,18 +77,18 @@ module _ (σ : Trace) (e : ℕ) {op : ℕ} (q : op ≡ at σ e .op) where
       → fault σ e ≡ cond (holds σ e (task σ e) (object σ e)) 0 6
   unfolding fault
   fault-release a l =
-      rw (isAcquire-op, isRelease-op, isRead-op, lt-ltb (object σ e) locks l, a)
+      rw (enters-op, leaves-op, isRead-op, lt-ltb (object σ e) locks l, a)
       (decided (holds σ e (task σ e) (object σ e)) (λ y. rw y) (λ y. rw y))
 
   -- A write has no fault.
   pub fault-write : op ≡ 1 → fault σ e ≡ 0
   unfolding fault
-  fault-write a = rw (isAcquire-op, isRelease-op, isRead-op, a)
+  fault-write a = rw (enters-op, leaves-op, isRead-op, a)
 
   -- 7: a read has a writer.
   pub fault-read : op ≡ 0 → fault σ e ≡ cond (eqb (writer σ e) 0) 7 0
   unfolding fault
-  fault-read a = rw (isAcquire-op, isRelease-op, isRead-op, a)
+  fault-read a = rw (enters-op, leaves-op, isRead-op, a)
 
 -- ---- the event that decides
 

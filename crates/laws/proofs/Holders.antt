@@ -1,69 +1,96 @@
 -- Who holds a lock after one event more, and how one event changes a table of holders; what that holds is in
 -- specs/Walked. Assumes nothing.
 use Prim.Native.Nat.{ℕ, zero, suc, _≤_, _<_}
-use mathlib.Core.Path.{_≡_, refl, sym, ap, _∙_}
+use mathlib.Core.Path.{_≡_, refl, sym, _∙_}
 use mathlib.Core.Logic.{⊎-elim, _≢_}
-use mathlib.Core.Bool.{Bool, true, false, cond, not, _&&_, _||_, and-false, or-false}
-use mathlib.Core.List.{List, [], _∷_}
+use mathlib.Core.Bool.{Bool, true, false, not, _&&_, _||_, or-false}
+use mathlib.Core.List.{List}
 use native.Mathlib.Omega.{arith}
-use lib.Dec.{T, eqb, eqb→eq, eqb-refl, eqb·zero-suc, eqb·suc-zero, eqb·suc-suc, ltb, ltb→lt, lt→ltb}
+use lib.Dec.{T, eqb, eqb→eq, eqb-refl, eqb·zero-suc, eqb·suc-suc, ltb, ltb→lt, lt→ltb}
 use lib.ListN.{getD, set, replicate, length-set, length-replicate, getD-replicate}
 use lib.Seq.{getD-set-same, getD-set-other}
-use borrow.Author.Tests.{eq-eqb, ne-eqb, lt-ltb}
+use borrow.Author.Tests.{eq-eqb, ne-eqb, eqb-true, eqb-false}
 use Rattle.model.specs.Lists.{all, any, from}
-use Rattle.model.specs.Trace.{Trace, tasks, locks, noEvent, at, task, object, isAcquire, isRelease}
-use Rattle.model.specs.Relations.{operates, holds}
+use Rattle.model.specs.Trace.{Trace, tasks, locks, task, object, enters, depth, isAcquire, isRelease}
+use Rattle.model.specs.Relations.{holds}
 use Rattle.model.specs.WellFormed.{isFree}
 use Rattle.laws.specs.Walked.{Holder, Holders}
-use Rattle.laws.proofs.Tests.{decided, equal?, T-ext, not-or}
-use Rattle.laws.proofs.Lists.{any-iff, from-iff}
+use Rattle.laws.proofs.Tests.{decided, equal?, T-ext, is-true, or-r, or-elim}
+use Rattle.laws.proofs.Lists.{all-iff, any-iff, from-iff}
+use Rattle.laws.proofs.Depth.{isAcquire-iff, isRelease-iff, holds-iff, depth-start, depth-moved}
+use Rattle.laws.proofs.Depth.{depth-enter, depth-leave, depth-apart, depth-other, first-acquire}
+use Rattle.laws.proofs.Depth.{last-release, own-depth}
 
 module _ (σ : Trace) where
   -- ---- one event more
 
-  -- An event's own operation decides, and otherwise nothing changes.
-  pub holds-step : (e t l : ℕ) → holds σ (suc e) t l ≡ cond (operates σ t l e) (isAcquire σ e) (holds σ e t l)
-  unfolding holds
-  holds-step e t l = decided (operates σ t l e) (λ y. rw y) (λ y. rw y)
-
   -- Before event 1 nothing is held.
   pub holds-start : (t l : ℕ) → holds σ 1 t l ≡ false
-  unfolding holds isAcquire at noEvent
-  holds-start t l = decided (operates σ t l 0) (λ y. rw y) (λ y. rw y)
+  unfolding holds
+  holds-start t l = rw (depth-start σ t l)
+
+  -- What leaves a depth leaves the holding.
+  holds-keep : (e t l : ℕ) → depth σ (suc e) t l ≡ depth σ e t l → holds σ (suc e) t l ≡ holds σ e t l
+  unfolding holds
+  holds-keep e t l q = rw q
 
   -- An event with another object changes nothing.
   pub holds-apart : (e t l : ℕ) → object σ e ≢ l → holds σ (suc e) t l ≡ holds σ e t l
-  unfolding operates
-  holds-apart e t l d =
-      rw (holds-step e t l, ne-eqb (object σ e) l d, and-false (eqb (task σ e) t))
-
-  -- A read or a write changes nothing.
-  pub holds-access : (e t l : ℕ) → isAcquire σ e ≡ false → isRelease σ e ≡ false
-      → holds σ (suc e) t l ≡ holds σ e t l
-  unfolding operates
-  holds-access e t l a r =
-      rw (holds-step e t l, a, r, and-false)
+  holds-apart e t l d = holds-keep e t l (depth-apart σ e t l d)
 
   -- Another task's event changes nothing.
   pub holds-other : (e t l : ℕ) → task σ e ≢ t → holds σ (suc e) t l ≡ holds σ e t l
-  unfolding operates
-  holds-other e t l d = rw (holds-step e t l, ne-eqb (task σ e) t d)
+  holds-other e t l d = holds-keep e t l (depth-other σ e t l d)
 
-  -- The task of an acquire holds its lock.
+  -- An event that is no outer acquire or release changes nothing: a read, a write, and an inner one.
+  pub holds-access : (e t l : ℕ) → isAcquire σ e ≡ false → isRelease σ e ≡ false
+      → holds σ (suc e) t l ≡ holds σ e t l
+  holds-access e t l a r = T-ext _ _ there back
+    where
+      there : T (holds σ (suc e) t l) → T (holds σ e t l)
+      there h =
+          ⊎-elim (λ z.
+          let acquire = first-acquire σ t l e (depth-moved σ e t l) z (holds-iff σ (suc e) t l .0 h) .0 in
+          absurd (rw a at acquire))
+          (λ d. holds-iff σ e t l .1 (omega arith)) (equal? (depth σ e t l) 0)
+
+      back : T (holds σ e t l) → T (holds σ (suc e) t l)
+      back h =
+          ⊎-elim
+          (λ z. absurd (rw r at (last-release σ t l e (depth-moved σ e t l) (holds-iff σ e t l .0 h) z .0)))
+          (λ d. holds-iff σ (suc e) t l .1 (omega arith)) (equal? (depth σ (suc e) t l) 0)
+
+  -- The task of an acquire, from whatever depth, holds its lock.
+  pub holds-enter : (e t l : ℕ) → enters σ e ≡ true → object σ e ≡ l
+      → holds σ (suc e) t l ≡ (eqb (task σ e) t || holds σ e t l)
+  holds-enter e t l a q =
+      decided (eqb (task σ e) t)
+      (λ y. rw y (is-true (holds σ (suc e) t l) (taken (eqb-true (task σ e) t y))))
+      (λ n. rw n (holds-other e t l (eqb-false (task σ e) t n)))
+    where
+      taken : task σ e ≡ t → T (holds σ (suc e) t l)
+      taken p = holds-iff σ (suc e) t l .1 (omega (arith, depth-enter σ e t l (rw a tt) p q))
+
+  -- So does that of an outer one.
   pub holds-acquire : (e t l : ℕ) → isAcquire σ e ≡ true → object σ e ≡ l
       → holds σ (suc e) t l ≡ (eqb (task σ e) t || holds σ e t l)
-  unfolding operates
-  holds-acquire e t l a q =
-      rw (holds-step e t l, a, eq-eqb (object σ e) l q)
-      (decided (eqb (task σ e) t) (λ y. rw y) (λ y. rw y))
+  holds-acquire e t l a = holds-enter e t l (is-true (enters σ e) (isAcquire-iff σ e .0 (rw a tt) .0))
 
-  -- The task of a release does not hold its lock.
+  -- The task of an outer release does not hold its lock.
   pub holds-release : (e t l : ℕ) → isAcquire σ e ≡ false → isRelease σ e ≡ true → object σ e ≡ l
       → holds σ (suc e) t l ≡ (not (eqb (task σ e) t) && holds σ e t l)
-  unfolding operates
+  unfolding holds
   holds-release e t l a r q =
-      rw (holds-step e t l, a, r, eq-eqb (object σ e) l q)
-      (decided (eqb (task σ e) t) (λ y. rw y) (λ y. rw y))
+      decided (eqb (task σ e) t)
+      (λ y. rw y (given (eqb-true (task σ e) t y)))
+      (λ n. rw n (holds-other e t l (eqb-false (task σ e) t n)))
+    where
+      given : task σ e ≡ t → holds σ (suc e) t l ≡ false
+      given p =
+          let (h, d) = isRelease-iff σ e .0 (rw r tt) in
+          let one = own-depth σ t l e (record { task-is = p; object-is = q }) in
+          let none : depth σ (suc e) t l ≡ 0 = omega (arith, depth-leave σ e t l h p q) in
+          rw none
 
   -- ---- the holder of a lock
 
@@ -117,19 +144,35 @@ module _ (σ : Trace) where
               any-iff (λ t. holds σ e t l) (from 0 tasks) .1
               (u, from-iff 0 tasks u .1 (omega arith, omega arith), rw (f u (omega arith)) (eqb-refl (suc u)))
 
-  -- The lock of an acquire is free where it has no holder.
-  pub holder-free : (e h : ℕ) → Holder σ e (object σ e) h → isFree σ e ≡ eqb h 0
+  -- The lock of an acquire is free where it has no holder but the event's own task.
+  pub holder-free : (e h : ℕ) → Holder σ e (object σ e) h → isFree σ e ≡ (eqb h 0 || eqb h (suc (task σ e)))
   unfolding isFree
-  holder-free e h z =
-      none (λ t. holds σ e t (object σ e)) (from 0 tasks) ∙ ap not (holder-any e (object σ e) h z) ∙ zero-or h
+  holder-free e h z = T-ext _ _ (there h (z .bound) (z .holder)) back
     where
-      none : (p : ℕ → Bool) (xs : List ℕ) → all (λ t. not (p t)) xs ≡ not (any p xs)
-      none p [] = refl
-      none p (x ∷ xs) = rw (none p xs) (sym (not-or (p x) (any p xs)))
+      test : ℕ → Bool
+      test t = eqb t (task σ e) || not (holds σ e t (object σ e))
 
-      zero-or : (n : ℕ) → not (ltb 0 n) ≡ eqb n 0
-      zero-or zero = refl
-      zero-or (suc n) = rw (lt-ltb 0 (suc n) (omega arith), eqb·suc-zero n)
+      there : (h : ℕ) → h ≤ tasks → ((t : ℕ) → t < tasks → holds σ e t (object σ e) ≡ eqb h (suc t))
+          → T (all test (from 0 tasks)) → T (eqb h 0 || eqb h (suc (task σ e)))
+      there zero b f t = tt
+      there (suc u) b f t =
+          let fine = all-iff test (from 0 tasks) .0 t u (from-iff 0 tasks u .1 (omega arith, omega arith)) in
+          let own : holds σ e u (object σ e) ≡ true = f u (omega arith) ∙ eq-eqb (suc u) (suc u) refl in
+          or-r (eqb (suc u) 0) _
+          (rw (eqb·suc-suc u (task σ e)) (or-elim (eqb u (task σ e)) (not (holds σ e u (object σ e)))
+          (λ y. y) (λ n. absurd (rw own at n)) fine))
+
+      back : T (eqb h 0 || eqb h (suc (task σ e))) → T (all test (from 0 tasks))
+      back t = all-iff test (from 0 tasks) .1 (λ u m.
+          decided (eqb u (task σ e)) (λ y. rw y tt)
+          (λ n. rw (n, z .holder u (from-iff 0 tasks u .0 m .1), apart u n) tt))
+        where
+          apart : (u : ℕ) → eqb u (task σ e) ≡ false → eqb h (suc u) ≡ false
+          apart u n =
+              let d = eqb-false u (task σ e) n in
+              or-elim (eqb h 0) (eqb h (suc (task σ e)))
+              (λ y. ne-eqb h (suc u) (omega (arith, eqb→eq h 0 y)))
+              (λ y. ne-eqb h (suc u) (omega (arith, eqb→eq h (suc (task σ e)) y))) t
 
   -- ---- tables
 
@@ -156,7 +199,7 @@ module _ (σ : Trace) where
           rw (getD-set-other table (object σ e) l h 0 d)
           (holder-keep e l (getD table l 0) (λ t. holds-apart e t l (λ q. d (sym q))) (z .at l k))
 
-  -- A read or a write leaves them.
+  -- An event that is no outer acquire or release leaves them.
   pub holders-access : (e : ℕ) (table : List ℕ) → isAcquire σ e ≡ false → isRelease σ e ≡ false
       → Holders σ e table → Holders σ (suc e) table
   holders-access e table a r z = record {

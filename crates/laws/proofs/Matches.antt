@@ -24,7 +24,7 @@ use Rattle.laws.proofs.OpenAcquires.{other-released}
 
 module _ (σ : Trace) where
   -- One event more shows a match where there was none.
-  matching-more : (e f : ℕ) → f < e
+  pub matching-more : (e f : ℕ) → f < e
       → matchingBefore σ (suc e) f
       ≡ cond (isAcquire σ f)
       (cond (eqb (firstFrom (suc f) (e - suc f) (releases σ f)) 0) (cond (releases σ f e) e 0)
@@ -37,7 +37,7 @@ module _ (σ : Trace) where
       rw (count, firstFrom-more (suc f) (e - suc f) (releases σ f) (omega arith), last)
 
   -- An event that releases nothing, or what was released before, leaves a match.
-  matching-keep : (e f : ℕ) → f < e
+  pub matching-keep : (e f : ℕ) → f < e
       → (T (isAcquire σ f) → T (releases σ f e) → firstFrom (suc f) (e - suc f) (releases σ f) ≢ 0)
       → matchingBefore σ (suc e) f ≡ matchingBefore σ e f
   unfolding matchingBefore

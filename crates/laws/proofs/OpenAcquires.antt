@@ -1,5 +1,5 @@
--- The acquire of a release in a well-formed trace: the latest acquire of its lock, by whatever task. No
--- earlier event releases it, and other acquires were released before. Assumes nothing.
+-- The acquire of an outer release in a well-formed trace: the latest outer acquire of its lock, by whatever
+-- task. No earlier outer release is of it, and other acquires were released before. Assumes nothing.
 use Prim.Native.Nat.{ℕ, suc, _-_, _≤_, _<_}
 use mathlib.Core.Path.{_≡_, sym, ap, _∙_}
 use mathlib.Core.Logic.{⊎-elim, _≢_}
@@ -9,11 +9,13 @@ use lib.Dec.{T, eqb, eqb→eq}
 use lib.ListN.{length}
 use Rattle.model.specs.Lists.{lastBefore, firstFrom}
 use Rattle.model.specs.Trace.{Trace, task, object, isAcquire, isRelease, sameTask, sameObject}
-use Rattle.model.specs.Relations.{acquireOf, operates, holds}
+use Rattle.model.specs.Relations.{acquireOf}
 use Rattle.model.specs.Closed.{Again}
-use Rattle.laws.proofs.Tests.{parts, and-i, or-r, equal?, eq→eqb}
+use Rattle.laws.proofs.Tests.{parts, and-i, equal?, eq→eqb}
 use Rattle.laws.proofs.Searches.{Latest, lastBefore-latest, latest-same, Earliest, firstFrom-earliest}
 use Rattle.laws.proofs.Trace.{sameTask-iff, sameObject-iff, acquire-event}
+use Rattle.laws.proofs.Depth.{Of, Section, isRelease-iff, holds-iff, own-depth, depth-leave}
+use Rattle.laws.proofs.Depth.{depth-opens}
 use Rattle.laws.proofs.Relations.{releases}
 use Rattle.laws.proofs.WellFormed.{WellFormed, release-held, release-between}
 
@@ -29,41 +31,50 @@ module _ (σ : Trace) (ok : WellFormed σ) (e : ℕ) (inside : (1 ≤ e) × (e �
   abbrev pub opened : ℕ
   opened = lastBefore e acquires
 
-  -- The latest operation of its own task on it.
-  abbrev own : ℕ
-  own = lastBefore e (operates σ (task σ e) (object σ e))
+  -- The acquire of its own task since which it holds the lock.
+  own-opens : (a : ℕ) × Section σ (task σ e) (object σ e) e a
+  own-opens =
+      depth-opens σ e (task σ e) (object σ e)
+      (holds-iff σ e (task σ e) (object σ e) .0 (release-held σ ok e (inside .0) (inside .1) t))
 
-  own-latest : Latest e (operates σ (task σ e) (object σ e)) own
-  own-latest = lastBefore-latest e (operates σ (task σ e) (object σ e))
+  own : ℕ
+  own = own-opens .0
+
+  own-section : Section σ (task σ e) (object σ e) e own
+  unfolding own
+  own-section = own-opens .1
 
   own-acquire : T (isAcquire σ own)
-  unfolding holds
-  own-acquire = release-held σ ok e (inside .0) (inside .1) t
+  own-acquire = own-section .acquire
 
   own-nonzero : own ≢ 0
   own-nonzero = omega (arith, acquire-event σ own own-acquire)
 
   own-task : task σ own ≡ task σ e
-  unfolding operates
-  own-task = eqb→eq _ _ (search (parts, own-latest .passes own-nonzero))
+  own-task = own-section .of .task-is
 
   own-object : object σ own ≡ object σ e
-  unfolding operates
-  own-object = eqb→eq _ _ (search (parts, own-latest .passes own-nonzero))
+  own-object = own-section .of .object-is
 
   opened-latest : Latest e acquires opened
   opened-latest = lastBefore-latest e acquires
 
-  -- A release of the task's own acquire before e would be its latest operation.
+  -- An outer release of it before e would leave the task at depth 0.
   no-release : (r : ℕ) → own < r → r < e → T (releases σ own r) → ⊥
-  unfolding operates
   no-release r h k p =
       let same-lock : object σ own ≡ object σ r = sameObject-iff σ own r .0 (search parts) in
       let same-task : task σ own ≡ task σ r = sameTask-iff σ own r .0 (search parts) in
-      let release : T (isRelease σ r) = search parts in
-      let of-task : T (eqb (task σ r) (task σ e)) = eq→eqb _ _ (sym same-task ∙ own-task) in
-      let of-lock : T (eqb (object σ r) (object σ e)) = eq→eqb _ _ (sym same-lock ∙ own-object) in
-      omega (arith, own-latest .latest r k (search (and-i, or-r, of-task, of-lock, release)))
+      let of : Of σ (task σ e) (object σ e) r = record {
+        task-is = sym same-task ∙ own-task;
+        object-is = sym same-lock ∙ own-object;
+      } in
+      let (leaving, one) = isRelease-iff σ r .0 (search parts) in
+      omega (
+        arith,
+        own-depth σ (task σ e) (object σ e) r of,
+        depth-leave σ r (task σ e) (object σ e) leaving (of .task-is) (of .object-is),
+        own-section .within (suc r) (omega arith) (omega arith),
+      )
 
   -- The latest acquire of the lock is the task's own.
   opened-own : opened ≡ own
@@ -71,7 +82,7 @@ module _ (σ : Trace) (ok : WellFormed σ) (e : ℕ) (inside : (1 ≤ e) × (e �
       ⊎-elim (λ q. q)
       (λ d. absurd (between (omega (
         arith,
-        opened-latest .latest own (own-latest .below own-nonzero)
+        opened-latest .latest own (own-section .before)
             passes,
         d,
       ))))
@@ -97,7 +108,7 @@ module _ (σ : Trace) (ok : WellFormed σ) (e : ℕ) (inside : (1 ≤ e) × (e �
   -- It is an acquire of the event's task.
   pub opened-acquire : (opened ≢ 0) × (opened < e) × T (isAcquire σ opened)
   opened-acquire =
-      rw opened-own (own-nonzero, own-latest .below own-nonzero, own-acquire)
+      rw opened-own (own-nonzero, own-section .before, own-acquire)
 
   -- It is the match of the release.
   pub opened-match : opened ≡ acquireOf σ e
@@ -138,7 +149,7 @@ module _ (σ : Trace) (ok : WellFormed σ) (e : ℕ) (inside : (1 ≤ e) × (e �
           let r = firstFrom (suc own) (e - suc own) (releases σ own) in
           ⊎-elim (λ z. z)
           (λ d. absurd (no-release r (omega (arith, found .from d))
-          (omega (arith, found .below d, own-latest .below own-nonzero))
+          (omega (arith, found .below d, own-section .before))
           (found .passes d)))
           (equal? r 0)
 

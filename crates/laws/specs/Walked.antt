@@ -1,6 +1,6 @@
--- What the tables of a walk hold right before event e, in terms of the relations: the holder of a lock, the
--- locks of each task, the latest event of each kind, and the matches. How one event changes them is in
--- proofs/LatestEvents, Holders, Locksets and Matches.
+-- What the tables of a walk hold right before event e, in terms of the relations: the holder and the depth of
+-- a lock, the locks of each task, the latest event of each kind, and the matches. How one event changes them
+-- is in proofs/LatestEvents, Holders, Depths, Locksets and Matches.
 use Prim.Native.Nat.{ℕ, suc, _-_, _^_, _≤_, _<_}
 use mathlib.Core.Path.{_≡_}
 use mathlib.Core.Bool.{Bool, cond, _&&_}
@@ -8,7 +8,7 @@ use mathlib.Core.List.{List}
 use lib.Dec.{eqb}
 use lib.ListN.{length, getD}
 use Rattle.model.specs.Lists.{lastBefore, firstFrom, hasBit}
-use Rattle.model.specs.Trace.{Trace, tasks, locks, isAcquire, isRelease, sameTask, sameObject}
+use Rattle.model.specs.Trace.{Trace, tasks, locks, sameTask, sameObject, depth, isAcquire, isRelease}
 use Rattle.model.specs.Relations.{acquireOf, holds}
 
 -- The holder of lock l is task h - 1, or no task where h is 0.
@@ -20,6 +20,28 @@ pub record Holder (σ : Trace) (e l h : ℕ) : Type 0 where
 pub record Holders (σ : Trace) (e : ℕ) (table : List ℕ) : Type 0 where
   pub long : length table ≡ locks
   pub at : (l : ℕ) → l < locks → Holder σ e l (getD table l 0)
+
+-- Lock l has task h - 1 at depth d as its holder; h and d are 0 where it has none.
+pub record Depth (σ : Trace) (e l h d : ℕ) : Type 0 where
+  pub bound : h ≤ tasks
+  pub at : (t : ℕ) → t < tasks → depth σ e t l ≡ cond (eqb h (suc t)) d 0
+  pub none : eqb h 0 ≡ eqb d 0
+
+-- For each lock its holder and depth (02: the record kept for each lock).
+pub record Depths (σ : Trace) (e : ℕ) (holders depths : List ℕ) : Type 0 where
+  pub holders-long : length holders ≡ locks
+  pub depths-long : length depths ≡ locks
+  pub at : (l : ℕ) → l < locks → Depth σ e l (getD holders l 0) (getD depths l 0)
+
+-- Lock l has a holder at depth d, whichever task it is; d is 0 where it has none.
+pub record LockDepth (σ : Trace) (e l d : ℕ) : Type 0 where
+  pub holder : ℕ
+  pub at : Depth σ e l holder d
+
+-- For each lock its depth.
+pub record LockDepths (σ : Trace) (e : ℕ) (table : List ℕ) : Type 0 where
+  pub long : length table ≡ locks
+  pub at : (l : ℕ) → l < locks → LockDepth σ e l (getD table l 0)
 
 -- For each task the mask of the locks that it holds.
 pub record Locksets (σ : Trace) (e : ℕ) (table : List ℕ) : Type 0 where

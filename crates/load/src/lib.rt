@@ -6,26 +6,26 @@ ghost use Rattle.model.specs.Recording.{decodeAll};
 ghost use Rattle.model.specs.Calls.Check.{checkEvents};
 ghost use Rattle.model.specs.Calls.Load.{heldEvents, percent, load};
 ghost use Rattle.laws.specs.Sizes.{recordsLength, tableLength};
-ghost use Rattle.laws.specs.Walked.{Holder};
+ghost use Rattle.laws.specs.Walked.{LockDepth};
 
-// The holder of the lock after event e (its task plus 1, or 0), given that before it.
-fn holder_after(records: &[u8], e: usize, lock: u64, holder: u8) -> u8
-    requires { ⌜ (1 ≤ e) × (2 * e ≤ length (now records)) ×
-        (checkEvents (decodeAll (now records)) .refusal ≡ 0)
-        × Holder (decodeAll (now records)) e lock holder ⌝ }
-    ensures { λ r. ⌜ Holder (decodeAll (now (records .entry))) (e + 1) lock r ⌝ }
+// The depth of the lock after event e, given that before it, which is below e.
+fn depth_after(records: &[u8], e: usize, lock: u64, depth: u16) -> u16
+    requires { ⌜ (1 ≤ e) × (2 * e ≤ length (now records)) × (length (now records) ≤ recordsLength)
+        × (checkEvents (decodeAll (now records)) .refusal ≡ 0)
+        × LockDepth (decodeAll (now records)) e lock depth ⌝ }
+    ensures { λ r. ⌜ LockDepth (decodeAll (now (records .entry))) (e + 1) lock r ⌝ }
 {
     let op = recording::operation(records, e);
     if op < 2 {
-        return holder;
+        return depth;
     }
     if recording::object(records, e) as u64 != lock {
-        return holder;
+        return depth;
     }
     if op == 2 {
-        return recording::task(records, e) + 1;
+        return depth + 1;
     }
-    0
+    depth - 1
 }
 
 // How many events there are after which some task holds the lock.
@@ -35,12 +35,12 @@ fn count_held(records: &[u8], lock: u64) -> u64
     ensures { λ r. ⌜ (r < tableLength)
         × (r ≡ heldEvents (decodeAll (now (records .entry))) lock) ⌝ }
 {
-    let mut holder = 0u8;
+    let mut depth = 0u16;
     let mut held = 0;
     let mut e = 1;
     while e <= records.len() / 2 {
-        holder = holder_after(records, e, lock, holder);
-        if holder != 0 {
+        depth = depth_after(records, e, lock, depth);
+        if depth != 0 {
             held = held + 1;
         }
         e = e + 1;

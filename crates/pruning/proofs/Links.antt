@@ -3,37 +3,44 @@
 use Prim.Native.Nat.{ℕ, _-_, _≤_, _<_}
 use mathlib.Core.Path.{_≡_, refl, _∙_}
 use mathlib.Core.Logic.{⊎-elim, _≢_}
-use mathlib.Core.Bool.{false, cond, not, and-false}
+use mathlib.Core.Bool.{true, false, cond, not, and-false}
 use mathlib.Core.List.{List}
 use native.Mathlib.Omega.{arith}
 use lib.Dec.{T, eqb}
 use lib.ListN.{length, getD, set, length-set}
 use lib.Seq.{getD-set-same, getD-set-other}
-use borrow.Author.Tests.{ne-eqb, eqb-true}
+use borrow.Author.Tests.{eq-eqb, ne-eqb, eqb-true}
 use Rattle.model.specs.Trace.{Trace, at, object, isAcquire}
 use Rattle.model.specs.Relations.{held}
 use Rattle.laws.specs.Sizes.{tableLength}
 use Rattle.laws.specs.Chain.{Chain, signature, fits}
 use Rattle.laws.proofs.Bits.{hasBit-none}
 use Rattle.laws.proofs.Tests.{and-l, and-i, is-false, decided, cond-elim, equal?}
-use Rattle.laws.proofs.Faults.{isAcquire-op}
+use Rattle.laws.proofs.Faults.{isAcquire-none}
+use Rattle.laws.proofs.WellFormed.{WellFormed, acquire-outer}
+use Rattle.model.specs.Lists.{hasBit}
 use Rattle.pruning.specs.Linked.{isNested, Link, Linked}
 
 -- ---- nested acquires
 
-module _ (σ : Trace) (e later : ℕ) {op : ℕ} (is-op : op ≡ at σ e .op) where
+module _ (σ : Trace) (ok : WellFormed σ) (e later : ℕ) {op : ℕ} (is-op : op ≡ at σ e .op) where
   -- Another event than an acquire is passed over,
   pub nested-other : op ≢ 2 → later ≡ cond (isNested σ e) e later
-  nested-other d = rw (isAcquire-op σ e is-op, ne-eqb op 2 d)
+  nested-other d = rw (isAcquire-none σ e is-op d)
 
   module _ (a : op ≡ 2) {h : ℕ} (is-held : h ≡ held σ e) where
-    -- and so is an acquire that holds nothing;
+    -- and so is an acquire that holds nothing,
     pub nested-free : h ≡ 0 → later ≡ cond (isNested σ e) e later
     nested-free z = rw (← is-held, z, and-false (isAcquire σ e))
 
+    -- or its own lock;
+    pub nested-own : {o : ℕ} → o ≡ object σ e → hasBit h o ≡ true → later ≡ cond (isNested σ e) e later
+    nested-own q y = rw (acquire-outer σ ok e op is-op, ← is-held, ← q, y, eq-eqb op 2 a)
+
     -- any other is nested.
-    pub nested-held : h ≢ 0 → e ≡ cond (isNested σ e) e later
-    nested-held d = rw (isAcquire-op σ e is-op, a, ← is-held, ne-eqb h 0 d)
+    pub nested-held : {o : ℕ} → o ≡ object σ e → hasBit h o ≡ false → h ≢ 0 → e ≡ cond (isNested σ e) e later
+    nested-held q n d =
+        rw (acquire-outer σ ok e op is-op, ← is-held, ← q, n, eq-eqb op 2 a, ne-eqb h 0 d)
 
 -- A nested event is an acquire.
 pub nested-acquire : (σ : Trace) (e : ℕ) → T (isNested σ e) → T (isAcquire σ e)

@@ -55,14 +55,15 @@ pub fn object(records: &[u8], e: usize) -> u16
     (((records[at] & 3) as u16) << 8) | (records[at + 1] as u16)
 }
 
-// Puts questions 4 to 7 to event e, with the holder of each lock (its task plus 1, or 0) and the latest write
-// of each variable: the number of the first "no", or 0, and then the tables stand before the next event.
-fn ask(records: &[u8], e: usize, holders: &mut [u8], writes: &mut [u16]) -> u64
+// Puts questions 4 to 7 to event e, with the holder of each lock (its task plus 1, or 0), how deep it is in it,
+// and the latest write of each variable: the number of the first "no", or 0, and then the tables stand before
+// the next event. A depth is below e, so it fits.
+fn ask(records: &[u8], e: usize, holders: &mut [u8], depths: &mut [u16], writes: &mut [u16]) -> u64
     requires { ⌜ (1 ≤ e) × (2 * e ≤ length (now records)) × (e < tableLength)
-        × Asked (decodeAll (now records)) e (now holders) (now writes) ⌝ }
+        × Asked (decodeAll (now records)) e (now holders) (now depths) (now writes) ⌝ }
     ensures { λ r. ⌜ (r ≡ fault (decodeAll (now (records .entry))) e)
         × (r ≡ 0 → Asked (decodeAll (now (records .entry))) (e + 1) (now (holders .exit))
-        (now (writes .exit))) ⌝ }
+        (now (depths .exit)) (now (writes .exit))) ⌝ }
 {
     let op = operation(records, e);
     let task = task(records, e);
@@ -81,16 +82,26 @@ fn ask(records: &[u8], e: usize, holders: &mut [u8], writes: &mut [u16]) -> u64
         return 4;
     }
     if op == 2 {
-        if holders[at] != 0 {
+        if holders[at] == 0 {
+            holders[at] = task + 1;
+            depths[at] = 1;
+            return 0;
+        }
+        if holders[at] != task + 1 {
             return 5;
         }
-        holders[at] = task + 1;
+        depths[at] = depths[at] + 1;
         return 0;
     }
     if holders[at] != task + 1 {
         return 6;
     }
-    holders[at] = 0;
+    if depths[at] == 1 {
+        holders[at] = 0;
+        depths[at] = 0;
+        return 0;
+    }
+    depths[at] = depths[at] - 1;
     0
 }
 
@@ -100,10 +111,11 @@ fn check_events(records: &[u8]) -> Outcome
     ensures { λ r. ⌜ r ≡ checkEvents (decodeAll (now (records .entry))) ⌝ }
 {
     let mut holders = [0u8; 64];
+    let mut depths = [0u16; 64];
     let mut writes = [0u16; 1024];
     let mut e = 1;
     while e <= records.len() / 2 {
-        let refusal = ask(records, e, &mut holders, &mut writes);
+        let refusal = ask(records, e, &mut holders, &mut depths, &mut writes);
         if refusal != 0 {
             return Outcome {
                 refusal,

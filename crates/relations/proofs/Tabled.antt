@@ -2,28 +2,31 @@
 -- Assumes nothing.
 use Prim.Native.Nat.{ℕ, suc, _+_, _/_, _≤_, _<_}
 use mathlib.Core.Path.{_≡_, refl}
-use mathlib.Core.Bool.{true}
+use mathlib.Core.Bool.{true, cond}
 use mathlib.Core.List.{List}
 use native.Mathlib.Omega.{arith}
+use lib.Dec.{eqb}
 use lib.Count.{ones, ones-le}
 use lib.ListN.{length, getD, replicate, length-replicate}
 use Rattle.model.specs.Trace.{Trace, tasks, locks, variables, at, task, object, isWrite, isAcquire}
 use Rattle.model.specs.Recording.{decodeAll}
-use Rattle.model.specs.Relations.{predecessor, writer, matching, held}
+use Rattle.model.specs.Relations.{predecessor, writer, held}
 use Rattle.model.specs.declared.Relations.{Relations}
 use Rattle.laws.specs.Answered.{eventRelations}
 use Rattle.laws.proofs.Trace.{decodeAll-length}
 use Rattle.laws.proofs.LatestEvents.{latest-start, filled-start}
 use Rattle.laws.proofs.Locksets.{locksets-start}
-use Rattle.laws.proofs.Relations.{predecessor-below, writer-below, matching-le, held-lt}
-use Rattle.laws.proofs.Matches.{matches-start, matches-end}
+use Rattle.laws.proofs.Relations.{predecessor-below, writer-below, held-lt}
+use Rattle.laws.proofs.Marks.{marked-match, marked-le, marks-start, marks-end}
+use Rattle.laws.proofs.LockDepths.{lockDepths-start}
+use Rattle.laws.specs.EventKinds.{marked}
 use Rattle.relations.specs.Tables.{operation, Tables, Long, Noted}
 
 -- Before event 1 the tables are clear.
 pub noted-start : (σ : Trace) (operations owners objects holding predecessors writers matches : List ℕ)
     → Long operations owners objects holding predecessors writers matches
     → Noted σ 1 operations owners objects holding predecessors writers matches
-    (replicate tasks 0) (replicate variables 0) (replicate tasks 0) (replicate locks 0)
+    (replicate tasks 0) (replicate variables 0) (replicate locks 0) (replicate tasks 0) (replicate locks 0)
 noted-start σ operations owners objects holding predecessors writers matches long = record {
   long = long;
   working = record {
@@ -37,18 +40,19 @@ noted-start σ operations owners objects holding predecessors writers matches lo
   held-filled = filled-start (held σ) holding;
   predecessor-filled = filled-start (predecessor σ) predecessors;
   writer-filled = filled-start (writer σ) writers;
-  matching-filled = matches-start σ matches;
+  matching-filled = marks-start σ matches;
   latest-event = latest-start (λ f. true) (task σ) tasks;
   latest-write = latest-start (isWrite σ) (object σ) variables;
+  depth = lockDepths-start σ;
   lockset = locksets-start σ;
   latest-acquire = latest-start (isAcquire σ) (object σ) locks;
 }
 
 -- After the last event each table has its relation for every event.
 pub noted-end : (b : List ℕ) (e : ℕ)
-    {operations tasks objects holding predecessors writers matches latest writes locksets acquires : List ℕ}
+    {operations tasks objects holding predecessors writers matches latest writes depths locksets acquires : List ℕ}
     → Noted (decodeAll b) e operations tasks objects holding predecessors writers matches latest writes
-    locksets
+    depths locksets
     acquires
     → e ≤ length b / 2 + 1 → length b / 2 < e
     → Tables (decodeAll b) operations tasks objects holding predecessors writers matches
@@ -60,7 +64,7 @@ noted-end b e {matches = matches} z h k = record {
   held-at = λ f i j. z .held-filled .at f i (omega (arith, decodeAll-length b));
   predecessor-at = λ f i j. z .predecessor-filled .at f i (omega (arith, decodeAll-length b));
   writer-at = λ f i j. z .writer-filled .at f i (omega (arith, decodeAll-length b));
-  matching-at = matches-end (decodeAll b) matches (rw last at (z .matching-filled));
+  matching-at = marks-end (decodeAll b) matches (rw last at (z .matching-filled));
 }
   where
     last : e ≡ suc (length (decodeAll b))
@@ -78,12 +82,19 @@ module _ {σ : Trace} {operations tasks objects holding predecessors writers mat
         event = 0;
         held = getD holding e 0;
         locks = ones (getD holding e 0);
-        matching = getD matches e 0;
+        matching = cond (eqb (getD matches e 0) e) 0 (getD matches e 0);
         writer = getD writers e 0;
         predecessor = getD predecessors e 0;
       })
       (eventRelations σ e)
-  tables-answer = rw (z .held-at e h k, z .matching-at e h k, z .writer-at e h k, z .predecessor-at e h k)
+  tables-answer =
+      rw (
+        z .held-at e h k,
+        z .matching-at e h k,
+        z .writer-at e h k,
+        z .predecessor-at e h k,
+        ← (marked-match σ e h),
+      )
 
   -- The number of held locks fits,
   pub locks-fit : ones (getD holding e 0) ≤ 64
@@ -91,7 +102,7 @@ module _ {σ : Trace} {operations tasks objects holding predecessors writers mat
 
   -- and so does the number of each related event.
   pub matching-fits : getD matches e 0 ≤ length σ
-  matching-fits = rw (z .matching-at e h k) (matching-le σ e k)
+  matching-fits = rw (z .matching-at e h k) (marked-le σ e k)
 
   -- The writer's.
   pub writer-fits : getD writers e 0 ≤ length σ

@@ -6,9 +6,10 @@ use mathlib.Core.Bool.{true}
 use mathlib.Core.List.{List}
 use lib.ListN.{length, getD}
 use Rattle.model.specs.Trace.{Trace, tasks, locks, variables, at, task, object, isWrite, isAcquire}
-use Rattle.model.specs.Relations.{predecessor, writer, matching, held}
+use Rattle.model.specs.Relations.{predecessor, writer, held}
 use Rattle.laws.specs.Sizes.{tableLength}
-use Rattle.laws.specs.Walked.{Filled, LatestEvents, Locksets, Matches}
+use Rattle.laws.specs.Walked.{Filled, LatestEvents, LockDepths, Locksets}
+use Rattle.laws.specs.EventKinds.{marked, Marks}
 
 -- The operation of an event, as a relation.
 abbrev pub operation : Trace → ℕ → ℕ
@@ -34,7 +35,7 @@ pub record Tables (σ : Trace) (operations tasks objects holding predecessors wr
   pub held-at : (e : ℕ) → 1 ≤ e → e ≤ length σ → getD holding e 0 ≡ held σ e
   pub predecessor-at : (e : ℕ) → 1 ≤ e → e ≤ length σ → getD predecessors e 0 ≡ predecessor σ e
   pub writer-at : (e : ℕ) → 1 ≤ e → e ≤ length σ → getD writers e 0 ≡ writer σ e
-  pub matching-at : (e : ℕ) → 1 ≤ e → e ≤ length σ → getD matches e 0 ≡ matching σ e
+  pub matching-at : (e : ℕ) → 1 ≤ e → e ≤ length σ → getD matches e 0 ≡ marked σ e
 
 -- The working tables have an entry for each task, for each variable and for each lock.
 pub record Working (latest writes acquires : List ℕ) : Type 0 where
@@ -45,7 +46,7 @@ pub record Working (latest writes acquires : List ℕ) : Type 0 where
 -- The tables right before event e is noted: each has its relation for the earlier events, and the working
 -- tables hold what noting event e asks for.
 pub record Noted (σ : Trace) (e : ℕ) (operations tasks objects holding predecessors writers matches : List ℕ)
-    (latest writes locksets acquires : List ℕ) : Type 0 where
+    (latest writes depths locksets acquires : List ℕ) : Type 0 where
   pub long : Long operations tasks objects holding predecessors writers matches
   pub working : Working latest writes acquires
   pub operation-filled : Filled (operation σ) e operations
@@ -54,8 +55,9 @@ pub record Noted (σ : Trace) (e : ℕ) (operations tasks objects holding predec
   pub held-filled : Filled (held σ) e holding
   pub predecessor-filled : Filled (predecessor σ) e predecessors
   pub writer-filled : Filled (writer σ) e writers
-  pub matching-filled : Matches σ e matches
+  pub matching-filled : Marks σ e matches
   pub latest-event : LatestEvents (λ f. true) (task σ) e latest
   pub latest-write : LatestEvents (isWrite σ) (object σ) e writes
+  pub depth : LockDepths σ e depths
   pub lockset : Locksets σ e locksets
   pub latest-acquire : LatestEvents (isAcquire σ) (object σ) e acquires

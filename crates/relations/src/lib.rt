@@ -2,16 +2,18 @@
 // call that gives those of one event. Tables are lent, and have an entry for each event number to 4,095.
 ghost use Prim.Native.Nat.{_+_, _*_, _/_, _<_, _≤_};
 ghost use mathlib.Core.Path.{_≡_};
-ghost use mathlib.Core.Bool.{true};
+ghost use mathlib.Core.Bool.{true, cond};
+ghost use lib.Dec.{eqb};
 ghost use lib.ListN.{length};
-ghost use Rattle.model.specs.Trace.{tasks, locks, variables, task, object, isWrite, isAcquire};
+ghost use Rattle.model.specs.Trace.{tasks, locks, variables, at, task, object, isWrite, isAcquire};
 ghost use Rattle.model.specs.Recording.{decodeAll};
 ghost use Rattle.model.specs.Relations.{predecessor, writer, held};
 ghost use Rattle.model.specs.Calls.Check.{checkEvents};
 ghost use Rattle.model.specs.Calls.Relations.{relations};
 ghost use Rattle.laws.specs.Sizes.{recordsLength, tableLength};
 ghost use Rattle.laws.specs.Answered.{refusedRelations, eventRelations};
-ghost use Rattle.laws.specs.Walked.{Filled, LatestEvents, Locksets, Matches};
+ghost use Rattle.laws.specs.Walked.{Filled, LatestEvents, LockDepths, Locksets};
+ghost use Rattle.laws.specs.EventKinds.{kind, Marks};
 ghost use Rattle.relations.specs.Tables.{operation, Tables, Noted};
 
 // Notes what event e's own record says.
@@ -77,56 +79,125 @@ fn note_access(records: &[u8], e: usize, writers: &mut [u16], writes: &mut [u16]
     }
 }
 
-// Notes event e's held locks: those of its task, to which an acquire then adds its lock, and from which a
-// release takes it.
-fn note_held(records: &[u8], e: usize, holding: &mut [u64], locksets: &mut [u64])
+// The kind of event e: its operation, or 4 for an inner acquire or release, by the depth of its lock, which then
+// is that after the event.
+fn kind_of(records: &[u8], e: usize, depths: &mut [u16]) -> u8
     requires { ⌜ (1 ≤ e) × (2 * e ≤ length (now records)) × (e < tableLength)
+        × (checkEvents (decodeAll (now records)) .refusal ≡ 0)
+        × LockDepths (decodeAll (now records)) e (now depths) ⌝ }
+    ensures { λ r. ⌜ (at (decodeAll (now (records .entry))) e .op < 4)
+        × (r ≡ kind (decodeAll (now (records .entry))) e)
+        × LockDepths (decodeAll (now (records .entry))) (e + 1) (now (depths .exit)) ⌝ }
+{
+    let op = recording::operation(records, e);
+    if op < 2 {
+        return op;
+    }
+    let l = recording::object(records, e) as usize;
+    let d = depths[l];
+    if op == 2 {
+        depths[l] = d + 1;
+        if d == 0 {
+            return 2;
+        }
+        return 4;
+    }
+    depths[l] = d - 1;
+    if d == 1 {
+        return 3;
+    }
+    4
+}
+
+// Notes event e's held locks: those of its task, to which an outer acquire then adds its lock, and from which
+// an outer release takes it.
+fn note_held(records: &[u8], e: usize, k: u8, holding: &mut [u64], locksets: &mut [u64])
+    requires { ⌜ (1 ≤ e) × (2 * e ≤ length (now records)) × (e < tableLength)
+        × (at (decodeAll (now records)) e .op < 4) × (k ≡ kind (decodeAll (now records)) e)
         × (length (now holding) ≡ tableLength) × (checkEvents (decodeAll (now records)) .refusal ≡ 0)
         × Filled (held (decodeAll (now records))) e (now holding)
         × Locksets (decodeAll (now records)) e (now locksets) ⌝ }
     ensures { λ r. ⌜ Filled (held (decodeAll (now (records .entry)))) (e + 1) (now (holding .exit))
         × Locksets (decodeAll (now (records .entry))) (e + 1) (now (locksets .exit)) ⌝ }
 {
-    let op = recording::operation(records, e);
     let t = recording::task(records, e) as usize;
     let mask = locksets[t];
     holding[e] = mask;
-    if op == 2 {
+    if k == 2 {
         locksets[t] = mask | (1 << (recording::object(records, e) as u64));
         return;
     }
-    if op == 3 {
+    if k == 3 {
         locksets[t] = mask ^ (1 << (recording::object(records, e) as u64));
     }
 }
 
-// Notes event e's match: a release and the latest acquire of its lock are each other's.
-fn note_match(records: &[u8], e: usize, matches: &mut [u16], acquires: &mut [u16])
+// Notes event e's match: an outer release and the latest outer acquire of its lock are each other's; an inner
+// event is marked by its own number.
+fn note_match(records: &[u8], e: usize, k: u8, matches: &mut [u16], acquires: &mut [u16])
     requires { ⌜ (1 ≤ e) × (2 * e ≤ length (now records)) × (e < tableLength)
+        × (at (decodeAll (now records)) e .op < 4) × (k ≡ kind (decodeAll (now records)) e)
         × (length (now matches) ≡ tableLength) × (length (now acquires) ≡ locks)
         × (checkEvents (decodeAll (now records)) .refusal ≡ 0)
-        × Matches (decodeAll (now records)) e (now matches)
+        × Marks (decodeAll (now records)) e (now matches)
         × LatestEvents (isAcquire (decodeAll (now records))) (object (decodeAll (now records))) e
         (now acquires) ⌝ }
     ensures { λ r. ⌜ (length (now (acquires .exit)) ≡ locks)
-        × Matches (decodeAll (now (records .entry))) (e + 1) (now (matches .exit))
+        × Marks (decodeAll (now (records .entry))) (e + 1) (now (matches .exit))
         × LatestEvents (isAcquire (decodeAll (now (records .entry))))
         (object (decodeAll (now (records .entry))))
         (e + 1) (now (acquires .exit)) ⌝ }
 {
-    let op = recording::operation(records, e);
     let l = recording::object(records, e) as usize;
-    if op == 3 {
+    if k == 3 {
         let a = acquires[l];
         let at = a as usize;
         matches[at] = e as u16;
         matches[e] = a;
         return;
     }
+    if k == 4 {
+        matches[e] = e as u16;
+        return;
+    }
     matches[e] = 0;
-    if op == 2 {
+    if k == 2 {
         acquires[l] = e as u16;
     }
+}
+
+// Notes what event e does to locks: held locks, match, and the depths.
+fn note_locks(
+    records: &[u8],
+    e: usize,
+    holding: &mut [u64],
+    matches: &mut [u16],
+    depths: &mut [u16],
+    locksets: &mut [u64],
+    acquires: &mut [u16],
+)
+    requires { ⌜ (1 ≤ e) × (2 * e ≤ length (now records)) × (e < tableLength)
+        × (checkEvents (decodeAll (now records)) .refusal ≡ 0)
+        × (length (now holding) ≡ tableLength) × (length (now matches) ≡ tableLength)
+        × (length (now acquires) ≡ locks)
+        × Filled (held (decodeAll (now records))) e (now holding)
+        × Marks (decodeAll (now records)) e (now matches)
+        × LockDepths (decodeAll (now records)) e (now depths)
+        × Locksets (decodeAll (now records)) e (now locksets)
+        × LatestEvents (isAcquire (decodeAll (now records))) (object (decodeAll (now records))) e
+        (now acquires) ⌝ }
+    ensures { λ r. ⌜ (length (now (acquires .exit)) ≡ locks)
+        × Filled (held (decodeAll (now (records .entry)))) (e + 1) (now (holding .exit))
+        × Marks (decodeAll (now (records .entry))) (e + 1) (now (matches .exit))
+        × LockDepths (decodeAll (now (records .entry))) (e + 1) (now (depths .exit))
+        × Locksets (decodeAll (now (records .entry))) (e + 1) (now (locksets .exit))
+        × LatestEvents (isAcquire (decodeAll (now (records .entry))))
+        (object (decodeAll (now (records .entry))))
+        (e + 1) (now (acquires .exit)) ⌝ }
+{
+    let k = kind_of(records, e, depths);
+    note_held(records, e, k, holding, locksets);
+    note_match(records, e, k, matches, acquires);
 }
 
 // Notes event e in every table.
@@ -142,25 +213,25 @@ fn note_event(
     matches: &mut [u16],
     latest: &mut [u16],
     writes: &mut [u16],
+    depths: &mut [u16],
     locksets: &mut [u64],
     acquires: &mut [u16],
 )
     requires { ⌜ (1 ≤ e) × (2 * e ≤ length (now records)) × (e < tableLength)
         × (checkEvents (decodeAll (now records)) .refusal ≡ 0)
         × Noted (decodeAll (now records)) e (now operations) (now tasks) (now objects) (now holding)
-        (now predecessors) (now writers) (now matches) (now latest) (now writes) (now locksets)
+        (now predecessors) (now writers) (now matches) (now latest) (now writes) (now depths) (now locksets)
         (now acquires) ⌝ }
     ensures { λ r. ⌜ Noted (decodeAll (now (records .entry))) (e + 1) (now (operations .exit))
         (now (tasks .exit))
         (now (objects .exit)) (now (holding .exit)) (now (predecessors .exit)) (now (writers .exit))
-        (now (matches .exit)) (now (latest .exit)) (now (writes .exit)) (now (locksets .exit))
+        (now (matches .exit)) (now (latest .exit)) (now (writes .exit)) (now (depths .exit)) (now (locksets .exit))
         (now (acquires .exit)) ⌝ }
 {
     note_record(records, e, operations, tasks, objects);
     note_task(records, e, predecessors, latest);
     note_access(records, e, writers, writes);
-    note_held(records, e, holding, locksets);
-    note_match(records, e, matches, acquires);
+    note_locks(records, e, holding, matches, depths, locksets, acquires);
 }
 
 // Fills the tables of the records, whose events are accepted: one pass, each event noted in turn.
@@ -185,6 +256,7 @@ pub fn fill_tables(
 {
     let mut latest = [0u16; 16];
     let mut writes = [0u16; 1024];
+    let mut depths = [0u16; 64];
     let mut locksets = [0u64; 16];
     let mut acquires = [0u16; 64];
     let mut e = 1;
@@ -201,6 +273,7 @@ pub fn fill_tables(
             matches,
             &mut latest,
             &mut writes,
+            &mut depths,
             &mut locksets,
             &mut acquires,
         );
@@ -221,6 +294,16 @@ fn refused(refusal: u64, event: u64) -> model::Relations
         writer: 0,
         predecessor: 0,
     }
+}
+
+// The match that a table with marks has for event e: 0 where it is marked by its own number.
+fn unmarked(noted: u16, e: usize) -> u64
+    ensures { λ r. ⌜ r ≡ cond (eqb noted e) 0 noted ⌝ }
+{
+    if noted as usize == e {
+        return 0;
+    }
+    noted as u64
 }
 
 // The relations of event e of records whose events are accepted, read off the tables.
@@ -252,7 +335,7 @@ fn relations_of(records: &[u8], e: usize) -> model::Relations
         event: 0,
         held: mask,
         locks: u64::count_ones(mask) as u64,
-        matching: matches[e] as u64,
+        matching: unmarked(matches[e], e),
         writer: writers[e] as u64,
         predecessor: predecessors[e] as u64,
     }

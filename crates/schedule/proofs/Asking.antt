@@ -9,13 +9,14 @@ use lib.Dec.{eqb, leb}
 use lib.ListN.{length, getD}
 use borrow.Author.Tests.{eq-eqb, ne-eqb, le-leb, lt-leb}
 use Rattle.model.specs.Trace.{Trace, tasks, variables, at, task, object}
-use Rattle.model.specs.Relations.{predecessor, writer, matching}
+use Rattle.model.specs.Relations.{predecessor, writer}
 use Rattle.model.specs.Recording.{decodeAll}
 use Rattle.model.specs.Schedule.{mayFollow}
 use Rattle.model.specs.Calls.Check.{checkEvents}
 use Rattle.laws.proofs.Trace.{decodeAll-length}
-use Rattle.laws.proofs.Relations.{matching-le}
-use Rattle.laws.proofs.Faults.{isRead-op, isAcquire-op}
+use Rattle.laws.specs.EventKinds.{marked}
+use Rattle.laws.proofs.Marks.{marked-le, isAcquire-marked}
+use Rattle.laws.proofs.Faults.{isRead-op, isAcquire-none}
 use Rattle.laws.proofs.Questions.{events-sound}
 use Rattle.schedule.specs.Listed.{Listed}
 use Rattle.schedule.specs.Next.{isListed, isNext, isUnlocked}
@@ -53,7 +54,7 @@ module _ (σ : Trace) (last : List ℕ) (e : ℕ) where
     unlocked-late d h = rw (← is, ne-eqb (getD acquires o 0) 0 d, le-leb e (getD acquires o 0) h)
 
     -- A lock that earlier acquires took: the match of the latest one decides.
-    pub unlocked-matched : (m : ℕ) → m ≡ matching σ (getD acquires o 0) → getD acquires o 0 ≢ 0
+    pub unlocked-matched : (m : ℕ) → m ≡ marked σ (getD acquires o 0) → getD acquires o 0 ≢ 0
         → getD acquires o 0 < e → isListed σ last m ≡ isUnlocked σ last acquires e
     unfolding isUnlocked
     unlocked-matched m q d h =
@@ -61,16 +62,16 @@ module _ (σ : Trace) (last : List ℕ) (e : ℕ) where
 
     -- The latest listed acquire of the lock is an event, and its match stands in the table.
     pub latest-matched : (matches : List ℕ) → getD acquires (object σ e) 0 ≤ length σ
-        → ((f : ℕ) → 1 ≤ f → f ≤ length σ → getD matches f 0 ≡ matching σ f) → getD acquires o 0 ≢ 0
+        → ((f : ℕ) → 1 ≤ f → f ≤ length σ → getD matches f 0 ≡ marked σ f) → getD acquires o 0 ≢ 0
         → (getD acquires o 0 ≤ length σ)
-        × (getD matches (getD acquires o 0) 0 ≡ matching σ (getD acquires o 0))
+        × (getD matches (getD acquires o 0) 0 ≡ marked σ (getD acquires o 0))
     latest-matched matches small matching-at d =
         let small = rw (← is) at small in (small, matching-at (getD acquires o 0) (omega arith) small)
 
 -- The match of an event of the records is one of them, or 0.
-pub matching-in : (b : List ℕ) (e m : ℕ) → m ≡ matching (decodeAll b) e → e ≤ length (decodeAll b)
+pub matching-in : (b : List ℕ) (e m : ℕ) → m ≡ marked (decodeAll b) e → e ≤ length (decodeAll b)
     → 2 * m ≤ length b
-matching-in b e m q h = omega (arith, matching-le (decodeAll b) e h, decodeAll-length b)
+matching-in b e m q h = omega (arith, marked-le (decodeAll b) e h, decodeAll-length b)
 
 -- ---- one event more
 
@@ -110,19 +111,29 @@ module _ (b : List ℕ) (accepted : checkEvents (decodeAll b) .refusal ≡ 0) (l
         rw (is-object .1, is-writer)
         (read-follows (decodeAll b) before last acquires writes z e inside small n
         (isRead-op (decodeAll b) e is-op ∙ eq-eqb op 0 r)
-        (isAcquire-op (decodeAll b) e is-op ∙ ne-eqb op 2 (omega arith)) (omega arith))
+        (isAcquire-none (decodeAll b) e is-op (omega arith)) (omega arith))
 
     -- A write or a release.
     pub asked-other : op ≢ 0 → op ≢ 2 → Answers (decodeAll b) last acquires writes e true
     asked-other r a before z =
         other-follows (decodeAll b) before last acquires writes z e inside small n
-        (isRead-op (decodeAll b) e is-op ∙ ne-eqb op 0 r) (isAcquire-op (decodeAll b) e is-op ∙ ne-eqb op 2 a)
+        (isRead-op (decodeAll b) e is-op ∙ ne-eqb op 0 r) (isAcquire-none (decodeAll b) e is-op a)
 
-    -- An acquire.
-    pub asked-acquire : op ≡ 2 → (r : Bool) → r ≡ isUnlocked (decodeAll b) last acquires e
+    -- An inner acquire, which is marked.
+    pub asked-inner : op ≡ 2 → (m : ℕ) → m ≡ marked (decodeAll b) e → m ≡ e
+        → Answers (decodeAll b) last acquires writes e true
+    asked-inner a m is-match y before z =
+        other-follows (decodeAll b) before last acquires writes z e inside small n
+        (isRead-op (decodeAll b) e is-op ∙ ne-eqb op 0 (omega arith))
+        (isAcquire-marked (decodeAll b) e op is-op (inside .0)
+        ∙ rw (← is-match, eq-eqb op 2 a, eq-eqb m e y))
+
+    -- An outer one.
+    pub asked-acquire : op ≡ 2 → (m : ℕ) → m ≡ marked (decodeAll b) e → m ≢ e → (r : Bool) → r ≡ isUnlocked (decodeAll b) last acquires e
         → Answers (decodeAll b) last acquires writes e r
-    asked-acquire a r is before z =
+    asked-acquire a m is-match y r is before z =
         is ∙ acquire-follows (decodeAll b) before last acquires writes z e inside small n
         (isRead-op (decodeAll b) e is-op ∙ ne-eqb op 0 (omega arith))
-        (isAcquire-op (decodeAll b) e is-op ∙ eq-eqb op 2 a)
+        (isAcquire-marked (decodeAll b) e op is-op (inside .0)
+        ∙ rw (← is-match, eq-eqb op 2 a, ne-eqb m e y))
         (acquire-lock (decodeAll b) (events-sound b accepted) e op is-op a)

@@ -18,6 +18,8 @@ use Rattle.laws.proofs.Trace.{isEvent-iff, sameTask-iff, sameObject-iff}
 use Rattle.laws.proofs.Relations.{predecessor-latest, predecessor-below, matching-below}
 use Rattle.laws.proofs.Schedule.{Prior, mayFollow-iff, enabled-iff}
 use Rattle.schedule.specs.Listed.{UpTo, Acquired, Listed}
+use Rattle.laws.specs.EventKinds.{marked}
+use Rattle.laws.proofs.Marks.{marked-acquire}
 use Rattle.schedule.specs.Next.{isListed, isNext, isUnlocked}
 
 -- ---- one task
@@ -118,15 +120,17 @@ module _ (σ : Trace) (before last acquires : List ℕ) (u : UpTo σ before last
       z .matched f m (search parts) (rw (sameObject-iff σ e f .0 (search parts)) at d)
 
   -- The latest listed acquire of the lock stands for all: the others have their matches listed.
-  clear-latest : top ≢ 0 → top < e → T (isListed σ last (matching σ top)) ↔ Clear σ before e
+  clear-latest : top ≢ 0 → top < e → T (isListed σ last (marked σ top)) ↔ Clear σ before e
   clear-latest d b =
       let (m, t, o) = z .listed (object σ e) l d in
-      let rule = isListed-iff σ before last u (matching σ top) (matching-below σ top t) in (
+      let rule = rw (← (marked-acquire σ top t)) at
+      (isListed-iff σ before last u (matching σ top) (matching-below σ top t)) in (
         λ h f n s. (
-          ⊎-elim (λ (q : f ≡ top). rw q (rule .0 h)) (others f n s) (equal? f top),
+          ⊎-elim (λ (q : f ≡ top). rw (q, ← (marked-acquire σ top t)) (rule .0 h)) (others f n s) (equal? f top),
           omega (arith, at-most f n s),
         ),
-        λ each. rule .1 (each top m (and-i (isAcquire σ top) _ t (sameObject-iff σ e top .1 (sym o))) .0),
+        λ each. rule .1 (rw (← (marked-acquire σ top t)) at
+            (each top m (and-i (isAcquire σ top) _ t (sameObject-iff σ e top .1 (sym o))) .0)),
       )
 
   -- An acquire's lock is clear, as the tables tell.

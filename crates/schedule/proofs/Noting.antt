@@ -20,7 +20,9 @@ use Rattle.laws.proofs.Tests.{and-i, or-l, or-r, or-elim, T-ext, eq→eqb, equa
 use Rattle.laws.proofs.Lists.{member-iff, zeros}
 use Rattle.laws.proofs.Trace.{Unpacked, isEvent-iff, sameTask-iff, sameObject-iff}
 use Rattle.laws.proofs.WellFormed.{WellFormed, acquire-lock}
-use Rattle.laws.proofs.Faults.{isWrite-op, isAcquire-op}
+use Rattle.laws.proofs.Faults.{isWrite-op, isAcquire-none}
+use Rattle.laws.specs.EventKinds.{marked}
+use Rattle.laws.proofs.Marks.{isAcquire-marked}
 use Rattle.laws.proofs.Schedule.{MayFollow, mayFollow-iff}
 use Rattle.schedule.specs.Listed.{UpTo, Acquired, Written, Listed}
 use Rattle.schedule.proofs.Laws.{listed-iff, Clear}
@@ -197,17 +199,30 @@ module _ (σ : Trace) (ok : WellFormed σ) {e op t o : ℕ} (u : Unpacked σ e o
   write-noted w = record {
     up-to = latest;
     acquired = acquired-keep σ before acquires (z .acquired) e
-        (isAcquire-op σ e (u .op-is .1) ∙ ne-eqb op 2 (omega arith));
+        (isAcquire-none σ e (u .op-is .1) (omega arith));
     written = rw (u .object-is .1) (written-next σ before writes (z .written) e
         (isWrite-op σ e (u .op-is .1) ∙ eq-eqb op 1 w));
   }
 
-  -- An acquire is that of its task, and the latest acquire of its lock.
-  pub acquire-noted : op ≡ 2 → Listed σ (e ∷ before) (set last t e) (set acquires o e) writes
-  acquire-noted a = record {
+  -- An inner acquire is that of its task.
+  pub inner-noted : op ≡ 2 → 1 ≤ e → (m : ℕ) → m ≡ marked σ e → m ≡ e
+      → Listed σ (e ∷ before) (set last t e) acquires writes
+  inner-noted a i m is-match y = record {
+    up-to = latest;
+    acquired = acquired-keep σ before acquires (z .acquired) e
+        (isAcquire-marked σ e op (u .op-is .1) i ∙ rw (← is-match, eq-eqb op 2 a, eq-eqb m e y));
+    written = written-keep σ before writes (z .written) e
+        (isWrite-op σ e (u .op-is .1) ∙ ne-eqb op 1 (omega arith));
+  }
+
+  -- An outer one is that of its task, and the latest acquire of its lock.
+  pub acquire-noted : op ≡ 2 → 1 ≤ e → (m : ℕ) → m ≡ marked σ e → m ≢ e
+      → Listed σ (e ∷ before) (set last t e) (set acquires o e) writes
+  acquire-noted a i m is-match y = record {
     up-to = latest;
     acquired =
-        let h : T (isAcquire σ e) = rw (isAcquire-op σ e (u .op-is .1), a) tt in
+        let h : T (isAcquire σ e) =
+        rw (isAcquire-marked σ e op (u .op-is .1) i, ← is-match, eq-eqb op 2 a, ne-eqb m e y) tt in
         rw (u .object-is .1) (acquired-next σ before acquires (z .acquired) e h
         (acquire-lock σ ok e op (u .op-is .1) a) (λ f i s. (follows .free h f i s, follows .locked h f i s)));
     written = written-keep σ before writes (z .written) e
@@ -219,7 +234,7 @@ module _ (σ : Trace) (ok : WellFormed σ) {e op t o : ℕ} (u : Unpacked σ e o
   other-noted w a = record {
     up-to = latest;
     acquired = acquired-keep σ before acquires (z .acquired) e
-        (isAcquire-op σ e (u .op-is .1) ∙ ne-eqb op 2 a);
+        (isAcquire-none σ e (u .op-is .1) a);
     written = written-keep σ before writes (z .written) e
         (isWrite-op σ e (u .op-is .1) ∙ ne-eqb op 1 w);
   }

@@ -6,7 +6,8 @@ use mathlib.Core.List.{List}
 use lib.Dec.{eqb, leb}
 use lib.ListN.{getD}
 use Rattle.model.specs.Trace.{Trace, task, object}
-use Rattle.model.specs.Relations.{predecessor, matching}
+use Rattle.model.specs.Relations.{predecessor}
+use Rattle.laws.specs.EventKinds.{marked}
 
 -- The event is listed: it is no later than the latest listed event of its task. 0 is none.
 unfoldable pub isListed : Trace → List ℕ → ℕ → Bool
@@ -21,4 +22,4 @@ isNext σ last e = eqb (predecessor σ e) (getD last (task σ e) 0)
 unfoldable pub isUnlocked : Trace → List ℕ → List ℕ → ℕ → Bool
 isUnlocked σ last acquires e =
     let latest = getD acquires (object σ e) 0 in
-    cond (eqb latest 0) true (cond (leb e latest) false (isListed σ last (matching σ latest)))
+    cond (eqb latest 0) true (cond (leb e latest) false (isListed σ last (marked σ latest)))

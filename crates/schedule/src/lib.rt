@@ -8,7 +8,8 @@ ghost use lib.Dec.{T};
 ghost use lib.ListN.{length, getD, replicate};
 ghost use Rattle.model.specs.Lists.{all};
 ghost use Rattle.model.specs.Trace.{tasks, locks, object, isEvent};
-ghost use Rattle.model.specs.Relations.{predecessor, matching};
+ghost use Rattle.model.specs.Relations.{predecessor};
+ghost use Rattle.laws.specs.EventKinds.{marked};
 ghost use Rattle.model.specs.Recording.{decodeAll};
 ghost use Rattle.model.specs.Bytes.{numbers, isWhole};
 ghost use Rattle.model.specs.Schedule.{mayFollow, syncPreserving, witnesses};
@@ -50,7 +51,7 @@ fn is_unlocked(records: &[u8], matches: &[u16], last: &[u16], acquires: &[u16], 
         × (object (decodeAll (now records)) e < locks)
         × (getD (now acquires) (object (decodeAll (now records)) e) 0 ≤ length (decodeAll (now records)))
         × ((f : ℕ) → 1 ≤ f → f ≤ length (decodeAll (now records))
-        → getD (now matches) f 0 ≡ matching (decodeAll (now records)) f) ⌝ }
+        → getD (now matches) f 0 ≡ marked (decodeAll (now records)) f) ⌝ }
     ensures { λ r. ⌜ r ≡ isUnlocked (decodeAll (now (records .entry))) (now (last .entry))
         (now (acquires .entry)) e ⌝ }
 {
@@ -100,13 +101,24 @@ fn follows(
     if op != 2 {
         return true;
     }
+    if matches[at] == e {
+        return true;
+    }
     is_unlocked(records, matches, last, acquires, e)
 }
 
 // Notes that event e is listed: as the latest of its task, of its lock where it is an acquire, and of its
 // variable where it is a write.
-fn note(records: &[u8], last: &mut [u16], acquires: &mut [u16], writes: &mut [u16], e: u16)
-    requires { ⌜ (1 ≤ e) × (2 * e ≤ length (now records))
+fn note(
+    records: &[u8],
+    matches: &[u16],
+    last: &mut [u16],
+    acquires: &mut [u16],
+    writes: &mut [u16],
+    e: u16,
+)
+    requires { ⌜ (1 ≤ e) × (2 * e ≤ length (now records)) × (e < length (now matches))
+        × (getD (now matches) e 0 ≡ marked (decodeAll (now records)) e)
         × (checkEvents (decodeAll (now records)) .refusal ≡ 0)
         × Ready (decodeAll (now records)) (now last) (now acquires) (now writes) ⌝ }
     ensures { λ r. ⌜ ((before : List ℕ)
@@ -123,9 +135,13 @@ fn note(records: &[u8], last: &mut [u16], acquires: &mut [u16], writes: &mut [u1
         writes[object] = e;
         return;
     }
-    if op == 2 {
-        acquires[object] = e;
+    if op != 2 {
+        return;
     }
+    if matches[at] == e {
+        return;
+    }
+    acquires[object] = e;
 }
 
 // Whether the schedule is order-keeping: each number may follow those before it. If so, `last` has the latest
@@ -162,7 +178,7 @@ fn keeps_order(
         ) {
             return false;
         }
-        note(records, last, &mut acquires, &mut writes, e);
+        note(records, matches, last, &mut acquires, &mut writes, e);
         i = i + 1;
     }
     true

@@ -1,4 +1,4 @@
--- `load::count_held` meets its contract: before each event the holder is the lock's, and the events passed
+-- `load::count_held` meets its contract: before each event the depth is the lock's, and the events passed
 -- are counted. Assumes nothing.
 use Prim.Native.Nat.{ℕ, _+_, _-_, _/_, _≤_, _<_}
 use mathlib.Core.Path.{_≡_, ap, _∙_}
@@ -9,20 +9,20 @@ use lib.ListN.{length}
 use Rattle.model.specs.Lists.{filter, from}
 use Rattle.model.specs.Recording.{decodeAll}
 use Rattle.model.specs.Calls.Load.{isHeldAfter, heldEvents}
-use Rattle.laws.specs.Walked.{Holder}
+use Rattle.laws.specs.Walked.{LockDepth}
 use Rattle.laws.proofs.Trace.{decodeAll-length}
-use Rattle.laws.proofs.Holders.{holder-start}
+use Rattle.laws.proofs.LockDepths.{lockDepth-start}
 use Rattle.load.proofs.Laws.{heldBefore, counted, uncounted}
 use Rattle.load.proofs.count_held.Statement.{statement}
 use Rattle.load.proofs.count_held.Tie as tie
 
 abbrev Inv-loop : tie.InvT-loop
-Inv-loop records lock holder₀ held₀ e₀ holder held e =
-    (1 ≤ e) × (e ≤ length records / 2 + 1) × (held < e) × Holder (decodeAll records) e lock holder
+Inv-loop records lock depth₀ held₀ e₀ depth held e =
+    (1 ≤ e) × (e ≤ length records / 2 + 1) × (held < e) × LockDepth (decodeAll records) e lock depth
     × (held ≡ heldBefore (decodeAll records) lock e)
 
 abbrev μ-loop : tie.MeasureT-loop
-μ-loop records lock holder₀ held₀ e₀ holder held e = length records / 2 + 1 - e
+μ-loop records lock depth₀ held₀ e₀ depth held e = length records / 2 + 1 - e
 
 loop-holds : tie.Need-loop-holds Inv-loop μ-loop
 loop-holds c =
@@ -30,13 +30,13 @@ loop-holds c =
       search needs,
       search needs,
       search needs,
-      holder-start (decodeAll b) (c .before .args .lock),
+      lockDepth-start (decodeAll b) (c .before .args .lock),
       search
           needs,
     )
 
-holder-after-requires : tie.Need-holder-after-requires Inv-loop μ-loop
-holder-after-requires c κs = search needs
+depth-after-requires : tie.Need-depth-after-requires Inv-loop μ-loop
+depth-after-requires c κs = search needs
 
 add-held : tie.Need-add-held Inv-loop μ-loop
 add-held c = search needs
@@ -52,7 +52,7 @@ loop-again c =
     let s = c .before .before .before .before .before in
     let σ = decodeAll (s .args .records .now) in
     let k = c .before .before .before .loop in
-    let h = c .before .holder-after .ensures in (
+    let h = c .before .depth-after .ensures in (
       search needs,
       search needs,
       ⊎-elim (λ w. omega arith) (λ w. omega arith) (c .if1 .came),
@@ -82,7 +82,7 @@ count-held-spec =
     Inv-loop
     μ-loop
     loop-holds
-    holder-after-requires
+    depth-after-requires
     add-held
     add-e
     loop-less

@@ -35,7 +35,7 @@ nested-or-requires : tie.Need-nested-or-requires Inv-loop μ-loop
 nested-or-requires c κs =
     let s = c .before .before .before .before .before in
     let k = c .before .loop in
-    (c .loop-test .taken, omega (arith, k .inv .0), s .pre .0, s .pre .1)
+    (c .loop-test .taken, omega (arith, k .inv .0), s .pre .0, s .pre .1, s .pre .3)
 
 sub-e : tie.Need-sub-e Inv-loop μ-loop
 sub-e c = search needs

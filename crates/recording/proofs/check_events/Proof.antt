@@ -14,11 +14,11 @@ use Rattle.recording.proofs.check_events.Lts as lts
 use Rattle.recording.proofs.ask.Reads as ask-reads
 
 abbrev Inv-loop : tie.InvT-loop
-Inv-loop records holders₀ writes₀ e₀ holders writes e =
-    (1 ≤ e) × (e ≤ length records / 2 + 1) × Asked (decodeAll records) e holders writes
+Inv-loop records holders₀ depths₀ writes₀ e₀ holders depths writes e =
+    (1 ≤ e) × (e ≤ length records / 2 + 1) × Asked (decodeAll records) e holders depths writes
 
 abbrev μ-loop : tie.MeasureT-loop
-μ-loop records holders₀ writes₀ e₀ holders writes e = length records / 2 + 1 - e
+μ-loop records holders₀ depths₀ writes₀ e₀ holders depths writes e = length records / 2 + 1 - e
 
 loop-holds : tie.Need-loop-holds Inv-loop μ-loop
 loop-holds c = (omega arith, omega arith, asked-start (decodeAll (c .before .args .records .now)))
@@ -29,15 +29,18 @@ slice-aggregate-ask c = search needs
 slice-aggregate-ask-2 : tie.Need-slice-aggregate-ask-2 Inv-loop μ-loop
 slice-aggregate-ask-2 c = search needs
 
+slice-aggregate-ask-3 : tie.Need-slice-aggregate-ask-3 Inv-loop μ-loop
+slice-aggregate-ask-3 c = search needs
+
 ask-requires : tie.Need-ask-requires Inv-loop μ-loop
 ask-requires c κs = search needs
 
 returns : tie.Need-returns Inv-loop μ-loop
 returns c =
-    let k = c .before .before .before .before .before .before .before in
-    asked-refused (k .before .before .args .records .now) (k .loop .e) (k .loop .holders) (k .loop .writes)
-    (k .loop .inv .2) (c .before .before .before .ask .result) (search needs) (search needs)
-    (c .before .before .before .ask .ensures .0) (c .if1 .taken)
+    let k = c .before .before .before .before .before .before .before .before .before in
+    asked-refused (k .before .before .args .records .now) (k .loop .e) (k .loop .holders) (k .loop .depths) (k .loop .writes)
+    (k .loop .inv .2) (c .before .before .before .before .ask .result) (search needs) (search needs)
+    (c .before .before .before .before .ask .ensures .0) (c .if1 .taken)
 
 add-e : tie.Need-add-e Inv-loop μ-loop
 add-e c = search needs
@@ -46,11 +49,11 @@ loop-less : tie.Need-loop-less Inv-loop μ-loop
 loop-less c = search needs
 
 loop-again : tie.Need-loop-again Inv-loop μ-loop
-loop-again c = (search needs, search needs, c .before .before .before .ask .ensures .1 (c .if1 .left))
+loop-again c = (search needs, search needs, c .before .before .before .before .ask .ensures .1 (c .if1 .left))
 
 returns-2 : tie.Need-returns-2 Inv-loop μ-loop
 returns-2 c = asked-passed (c .before .before .before .args .records .now) (c .before .loop .e)
-    (c .before .loop .holders) (c .before .loop .writes) (c .before .loop .inv .2) (search needs)
+    (c .before .loop .holders) (c .before .loop .depths) (c .before .loop .writes) (c .before .loop .inv .2) (search needs)
 
 pub check-events-spec : {M : Type 1} → statement M
 check-events-spec =
@@ -61,6 +64,7 @@ check-events-spec =
     loop-holds
     slice-aggregate-ask
     slice-aggregate-ask-2
+    slice-aggregate-ask-3
     ask-requires
     returns
     add-e

@@ -12,16 +12,16 @@ use Rattle.relations.proofs.fill_tables.Tie as tie
 
 abbrev Inv-loop : tie.InvT-loop
 Inv-loop records operations₀ tasks₀ objects₀ holding₀ predecessors₀ writers₀ matches₀ latest₀ writes₀
-    locksets₀ acquires₀ e₀ operations tasks objects holding predecessors writers matches latest writes
-    locksets acquires e =
+    depths₀ locksets₀ acquires₀ e₀ operations tasks objects holding predecessors writers matches latest writes
+    depths locksets acquires e =
     (1 ≤ e) × (e ≤ length records / 2 + 1)
     × Noted (decodeAll records) e operations tasks objects holding predecessors writers matches latest writes
-    locksets acquires
+    depths locksets acquires
 
 abbrev μ-loop : tie.MeasureT-loop
 μ-loop records operations₀ tasks₀ objects₀ holding₀ predecessors₀ writers₀ matches₀ latest₀ writes₀
-    locksets₀ acquires₀ e₀ operations tasks objects holding predecessors writers matches latest writes
-    locksets acquires e =
+    depths₀ locksets₀ acquires₀ e₀ operations tasks objects holding predecessors writers matches latest writes
+    depths locksets acquires e =
     length records / 2 + 1 - e
 
 loop-holds : tie.Need-loop-holds Inv-loop μ-loop
@@ -52,40 +52,30 @@ slice-aggregate-note-event-3 c = search needs
 slice-aggregate-note-event-4 : tie.Need-slice-aggregate-note-event-4 Inv-loop μ-loop
 slice-aggregate-note-event-4 c = search needs
 
+slice-aggregate-note-event-5 : tie.Need-slice-aggregate-note-event-5 Inv-loop μ-loop
+slice-aggregate-note-event-5 c = search needs
+
 note-event-requires : tie.Need-note-event-requires Inv-loop μ-loop
 note-event-requires c κs =
-    let k =
-    c .before .before .before .before .before .before .before .before .before .before .before
-    .before in (
+    let k = c .before .before .before .before .before .before .before .before .before .before .before .before .before in (
       k .loop .inv .0,
       search needs,
       search needs,
-      k .before .before .before .before .before .before .before
-          .before .before .pre .1,
+      k .before .before .before .before .before .before .before .before .before .pre .1,
       k .loop .inv .2,
     )
 
 add-e : tie.Need-add-e Inv-loop μ-loop
 add-e c =
-    let k =
-    c .before .before .before .before .before .before .before .before .before .before .before
-    .before .before .before .before .before .before .before .before .before .before .before .before
-    .before .before .before .before .before .before .before .before in
-    omega (
-      arith,
-      k .loop .inv .1,
-      k .before .before .before .before .before .before .before .before
-          .before .pre .0,
-    )
+    let k = c .before .before .before .before .before .before .before .before .before .before .before .before .before .before .before .before .before .before .before .before .before .before .before .before .before .before .before .before .before .before .before .before .before in
+    omega (arith, k .loop .inv .1, k .before .before .before .before .before .before .before .before .before .pre .0)
 
 loop-less : tie.Need-loop-less Inv-loop μ-loop
 loop-less c = search needs
 
 loop-again : tie.Need-loop-again Inv-loop μ-loop
 loop-again c =
-    let k =
-    c .before .before .before .before .before .before .before .before .before .before .before
-    .before .before .before .before .before .before .before in
+    let k = c .before .before .before .before .before .before .before .before .before .before .before .before .before .before .before .before .before .before .before in
     (search needs, search needs, k .note-event .ensures)
 
 same-length : tie.Need-same-length Inv-loop μ-loop
@@ -123,6 +113,7 @@ fill-tables-spec =
     slice-aggregate-note-event-2
     slice-aggregate-note-event-3
     slice-aggregate-note-event-4
+    slice-aggregate-note-event-5
     note-event-requires
     add-e
     loop-less

@@ -12,10 +12,7 @@ note-task-requires c κs = search needs
 
 note-access-requires : tie.Need-note-access-requires
 note-access-requires c κs =
-    let s =
-    c .before .before .before .before .before .before .before .before .before .before .before
-    .before .before .before .before .before .before .before .before .before .before .before .before
-    .before .before .before .before .before .before .before .before in
+    let s = c .before .before .before .before .before .before .before .before .before .before .before .before .before .before .before .before .before .before .before .before .before .before .before .before .before .before .before .before .before .before .before .before in
     let z = s .pre .4 in (
       s .pre .0,
       s .pre .1,
@@ -26,31 +23,21 @@ note-access-requires c κs =
       z .latest-write,
     )
 
-note-held-requires : tie.Need-note-held-requires
-note-held-requires c κs =
-    let s =
-    c .before .before .before .before .before .before .before .before .before .before .before
-    .before .before .before .before .before .before .before .before .before .before .before .before
-    .before .before .before .before .before .before .before .before .before .before .before .before
-    .before .before .before in
-    let z = s .pre .4 in
-    (s .pre .0, s .pre .1, s .pre .2, z .long .held-long, s .pre .3, z .held-filled, z .lockset)
-
-note-match-requires : tie.Need-note-match-requires
-note-match-requires c κs =
-    let s =
-    c .before .before .before .before .before .before .before .before .before .before .before
-    .before .before .before .before .before .before .before .before .before .before .before .before
-    .before .before .before .before .before .before .before .before .before .before .before .before
-    .before .before .before .before .before .before .before .before .before .before in
+note-locks-requires : tie.Need-note-locks-requires
+note-locks-requires c κs =
+    let s = c .before .before .before .before .before .before .before .before .before .before .before .before .before .before .before .before .before .before .before .before .before .before .before .before .before .before .before .before .before .before .before .before .before .before .before .before .before .before .before .before .before .before in
     let z = s .pre .4 in (
       s .pre .0,
       s .pre .1,
       s .pre .2,
+      s .pre .3,
+      z .long .held-long,
       z .long .matching-long,
       z .working .acquire-long,
-      s .pre .3,
+      z .held-filled,
       z .matching-filled,
+      z .depth,
+      z .lockset,
       z .latest-acquire,
     )
 
@@ -87,55 +74,44 @@ same-length-10 c = search needs
 same-length-11 : tie.Need-same-length-11
 same-length-11 c = search needs
 
+same-length-12 : tie.Need-same-length-12
+same-length-12 c = search needs
+
 returns : tie.Need-returns
 returns c =
-    let records =
-    c .before .before .before .before .before .before .before .before .before .before .before
-    .before .before .before .before .before .before .before .before .before .before .before .before
-    .before .before .before .before .before .before .before .before .before .before .before in
-    let tasks =
-    c .before .before .before .before .before .before .before .before .before .before .before
-    .before .before .before .before .before .before .before .before .before .before .before .before
-    .before .before in
-    let accesses =
-    c .before .before .before .before .before .before .before .before .before .before .before
-    .before .before .before .before .before .before .before in
-    let holds =
-    c .before .before .before .before .before .before .before .before .before .before .before in
-    let s =
-    c .before .before .before .before .before .before .before .before .before .before .before
-    .before .before .before .before .before .before .before .before .before .before .before .before
-    .before .before .before .before .before .before .before .before .before .before .before .before
-    .before .before .before .before .before .before .before .before .before .before .before .before
-    .before .before .before in
+    let records = c .before .before .before .before .before .before .before .before .before .before .before .before .before .before .before .before .before .before .before .before .before .before .before .before .before .before .before .before .before .before .before .before .before .before .before .before in
+    let tasks = c .before .before .before .before .before .before .before .before .before .before .before .before .before .before .before .before .before .before .before .before .before .before .before .before .before .before .before in
+    let accesses = c .before .before .before .before .before .before .before .before .before .before .before .before .before .before .before .before .before .before .before .before in
+    let locks = c .before .before .before .before .before .before .before .before .before .before in
+    let s = c .before .before .before .before .before .before .before .before .before .before .before .before .before .before .before .before .before .before .before .before .before .before .before .before .before .before .before .before .before .before .before .before .before .before .before .before .before .before .before .before .before .before .before .before .before .before .before .before .before .before .before .before .before in
     let z = s .pre .4 .long in
-    let matched = c .before .before .before .before in
     record {
       long = record {
         operation-long = records .note-record .kept .1 .1 .0 ∙ z .operation-long;
         task-long = records .note-record .kept .1 .1 .1 .0 ∙ z .task-long;
         object-long = records .note-record .kept .1 .1 .1 .1 .0 ∙ z .object-long;
-        held-long = holds .note-held .kept .1 .1 .0 ∙ z .held-long;
+        held-long = locks .note-locks .kept .1 .1 .0 ∙ z .held-long;
         predecessor-long = tasks .note-task .kept .1 .1 .0 ∙ z .predecessor-long;
         writer-long = accesses .note-access .kept .1 .1 .0 ∙ z .writer-long;
-        matching-long = matched .note-match .kept .1 .1 .0 ∙ z .matching-long;
+        matching-long = locks .note-locks .kept .1 .1 .1 .0 ∙ z .matching-long;
       };
       working = record {
         latest-long = tasks .note-task .ensures .0;
         write-long = accesses .note-access .ensures .0;
-        acquire-long = matched .note-match .ensures .0;
+        acquire-long = locks .note-locks .ensures .0;
       };
       operation-filled = records .note-record .ensures .0;
       task-filled = records .note-record .ensures .1;
       object-filled = records .note-record .ensures .2;
-      held-filled = holds .note-held .ensures .0;
+      held-filled = locks .note-locks .ensures .1;
       predecessor-filled = tasks .note-task .ensures .1;
       writer-filled = accesses .note-access .ensures .1;
-      matching-filled = matched .note-match .ensures .1;
+      matching-filled = locks .note-locks .ensures .2;
       latest-event = tasks .note-task .ensures .2;
       latest-write = accesses .note-access .ensures .2;
-      lockset = holds .note-held .ensures .1;
-      latest-acquire = matched .note-match .ensures .2;
+      depth = locks .note-locks .ensures .3;
+      lockset = locks .note-locks .ensures .4;
+      latest-acquire = locks .note-locks .ensures .5;
     }
 
 pub note-event-spec : {M : Type 1} → statement M
@@ -145,8 +121,7 @@ note-event-spec =
     note-record-requires
     note-task-requires
     note-access-requires
-    note-held-requires
-    note-match-requires
+    note-locks-requires
     same-length
     same-length-2
     same-length-3
@@ -158,4 +133,5 @@ note-event-spec =
     same-length-9
     same-length-10
     same-length-11
+    same-length-12
     returns)

@@ -6,9 +6,6 @@ use Rattle.relations.proofs.Laws.{lock-bound, held-noted, acquire-noted
 use Rattle.relations.proofs.note_held.Statement.{statement}
 use Rattle.relations.proofs.note_held.Tie as tie
 
-operation-requires : tie.Need-operation-requires
-operation-requires c κs = search needs
-
 task-requires : tie.Need-task-requires
 task-requires c κs = search needs
 
@@ -35,11 +32,11 @@ cast-locksets c = search needs
 
 shl-locksets : tie.Need-shl-locksets
 shl-locksets c =
-    let s = c .before .before .before .before .before .before .before .before in
+    let s = c .before .before .before .before .before .before .before in
     omega (
       arith,
-      lock-bound (s .args .records .now) (s .pre .4) (s .args .e) (s .pre .0, s .pre .1) _
-          (c .before .before .before .before .operation .ensures) (omega (arith, c .before .if1 .taken)),
+      lock-bound (s .args .records .now) (s .pre .6) (s .args .e) (s .pre .0, s .pre .1) _
+          (s .pre .3, s .pre .4) (omega (arith, c .before .if1 .taken)) (omega (arith, c .before .if1 .taken)),
       c .object .ensures,
     )
 
@@ -57,14 +54,13 @@ same-length-2 c = search needs
 
 returns : tie.Need-returns
 returns c =
-    let s = c .before .before .before .before .before .before .before .before in
+    let s = c .before .before .before .before .before .before .before in
     let b = s .args .records .now in
-    let is-op = c .before .before .before .before .operation .ensures in
     let is-task = c .before .before .before .task .ensures in (
-      held-noted b (s .pre .4) (s .args .e) (s .pre .0, s .pre .1) _ is-op _ is-task (s .args .locksets .now)
-          (s .pre .6) (s .args .holding .now) (s .pre .5) (search needs),
-      acquire-noted b (s .pre .4) (s .args .e) (s .pre .0, s .pre .1) _ is-op _ is-task
-          (s .args .locksets .now) (s .pre .6)
+      held-noted b (s .pre .6) (s .args .e) (s .pre .0, s .pre .1) _ (s .pre .3, s .pre .4) _ is-task (s .args .locksets .now)
+          (s .pre .8) (s .args .holding .now) (s .pre .7) (search needs),
+      acquire-noted b (s .pre .6) (s .args .e) (s .pre .0, s .pre .1) _ (s .pre .3, s .pre .4) _ is-task
+          (s .args .locksets .now) (s .pre .8)
           (c .before .if1 .taken)
           _ (c .object .ensures),
     )
@@ -77,12 +73,12 @@ cast-locksets-2 c = search needs
 
 shl-locksets-2 : tie.Need-shl-locksets-2
 shl-locksets-2 c =
-    let s = c .before .before .before .before .before .before .before .before .before in
+    let s = c .before .before .before .before .before .before .before .before in
     omega (
       arith,
-      lock-bound (s .args .records .now) (s .pre .4) (s .args .e) (s .pre .0, s .pre .1) _
-          (c .before .before .before .before .before .operation .ensures)
-          (omega (arith, c .before .if2 .taken)),
+      lock-bound (s .args .records .now) (s .pre .6) (s .args .e) (s .pre .0, s .pre .1) _
+          (s .pre .3, s .pre .4)
+          (omega (arith, c .before .if2 .taken)) (omega (arith, c .before .if2 .taken)),
       c .object2 .ensures,
     )
 
@@ -100,14 +96,13 @@ same-length-4 c = search needs
 
 returns-2 : tie.Need-returns-2
 returns-2 c =
-    let s = c .before .before .before .before .before .before .before .before .before in
+    let s = c .before .before .before .before .before .before .before .before in
     let b = s .args .records .now in
-    let is-op = c .before .before .before .before .before .operation .ensures in
     let is-task = c .before .before .before .before .task .ensures in (
-      held-noted b (s .pre .4) (s .args .e) (s .pre .0, s .pre .1) _ is-op _ is-task (s .args .locksets .now)
-          (s .pre .6) (s .args .holding .now) (s .pre .5) (search needs),
-      release-noted b (s .pre .4) (s .args .e) (s .pre .0, s .pre .1) _ is-op _ is-task
-          (s .args .locksets .now) (s .pre .6)
+      held-noted b (s .pre .6) (s .args .e) (s .pre .0, s .pre .1) _ (s .pre .3, s .pre .4) _ is-task (s .args .locksets .now)
+          (s .pre .8) (s .args .holding .now) (s .pre .7) (search needs),
+      release-noted b (s .pre .6) (s .args .e) (s .pre .0, s .pre .1) _ (s .pre .3, s .pre .4) _ is-task
+          (s .args .locksets .now) (s .pre .8)
           (c .before .if2 .taken)
           _ (c .object2 .ensures),
     )
@@ -117,14 +112,13 @@ same-length-5 c = search needs
 
 returns-3 : tie.Need-returns-3
 returns-3 c =
-    let s = c .before .before .before .before .before .before .before .before in
+    let s = c .before .before .before .before .before .before .before in
     let b = s .args .records .now in
-    let is-op = c .before .before .before .before .operation .ensures in
     let is-task = c .before .before .before .task .ensures in (
-      held-noted b (s .pre .4) (s .args .e) (s .pre .0, s .pre .1) _ is-op _ is-task (s .args .locksets .now)
-          (s .pre .6) (s .args .holding .now) (s .pre .5) (search needs),
-      access-noted b (s .pre .4) (s .args .e) (s .pre .0, s .pre .1) _ is-op _ is-task
-          (s .args .locksets .now) (s .pre .6)
+      held-noted b (s .pre .6) (s .args .e) (s .pre .0, s .pre .1) _ (s .pre .3, s .pre .4) _ is-task (s .args .locksets .now)
+          (s .pre .8) (s .args .holding .now) (s .pre .7) (search needs),
+      access-noted b (s .pre .6) (s .args .e) (s .pre .0, s .pre .1) _ (s .pre .3, s .pre .4) _ is-task
+          (s .args .locksets .now) (s .pre .8)
           (c .before .if1 .left)
           (c .if2 .left),
     )
@@ -133,7 +127,6 @@ pub note-held-spec : {M : Type 1} → statement M
 note-held-spec =
     tie.close
     (tie.spec
-    operation-requires
     task-requires
     cast-t
     mul-mask

@@ -3,12 +3,10 @@
 use native.Mathlib.Omega.{arith}
 use borrow.Author.Needs.{needs}
 use Rattle.relations.proofs.Laws.{lock-bound, opened-bound, release-matched, no-release-matched}
+use Rattle.relations.proofs.Laws.{inner-marked}
 use Rattle.relations.proofs.Laws.{acquire-latest, no-acquire-latest}
 use Rattle.relations.proofs.note_match.Statement.{statement}
 use Rattle.relations.proofs.note_match.Tie as tie
-
-operation-requires : tie.Need-operation-requires
-operation-requires c κs = search needs
 
 object-requires : tie.Need-object-requires
 object-requires c κs = search needs
@@ -21,24 +19,24 @@ mul-a c = search needs
 
 slice-read-a : tie.Need-slice-read-a
 slice-read-a c =
-    let s = c .before .before .before .before .before .before .before in
+    let s = c .before .before .before .before .before .before in
     omega (
       arith,
-      lock-bound (s .args .records .now) (s .pre .5) (s .args .e) (s .pre .0, s .pre .1) _
-          (c .before .before .before .operation .ensures) (omega (arith, c .before .if1 .taken)),
+      lock-bound (s .args .records .now) (s .pre .7) (s .args .e) (s .pre .0, s .pre .1) _
+          (s .pre .3, s .pre .4) (omega (arith, c .before .if1 .taken)) (omega (arith, c .before .if1 .taken)),
       c .before .before .object .ensures,
-      s .pre .4,
+      s .pre .6,
     )
 
 cast-at : tie.Need-cast-at
 cast-at c =
-    let s = c .before .before .before .before .before .before .before in
+    let s = c .before .before .before .before .before .before in
     omega (
       arith,
-      opened-bound (s .args .records .now) (s .pre .5) (s .args .e) (s .pre .0, s .pre .1) _
-          (c .before .before .before .operation .ensures) _ (c .before .before .object .ensures)
-          (s .args .acquires .now) (s .pre .4) (s .pre .7) (c .before .if1 .taken),
-      s .pre .3,
+      opened-bound (s .args .records .now) (s .pre .7) (s .args .e) (s .pre .0, s .pre .1) _
+          (s .pre .3, s .pre .4) _ (c .before .before .object .ensures)
+          (s .args .acquires .now) (s .pre .6) (s .pre .9) (c .before .if1 .taken),
+      s .pre .5,
     )
 
 cast-matches : tie.Need-cast-matches
@@ -46,24 +44,24 @@ cast-matches c = search needs
 
 mul-matches : tie.Need-mul-matches
 mul-matches c =
-    let s = c .before .before .before .before .before .before .before in
+    let s = c .before .before .before .before .before .before in
     omega (
       arith,
-      opened-bound (s .args .records .now) (s .pre .5) (s .args .e) (s .pre .0, s .pre .1) _
-          (c .before .before .before .operation .ensures) _ (c .before .before .object .ensures)
-          (s .args .acquires .now) (s .pre .4) (s .pre .7) (c .before .if1 .taken),
-      s .pre .3,
+      opened-bound (s .args .records .now) (s .pre .7) (s .args .e) (s .pre .0, s .pre .1) _
+          (s .pre .3, s .pre .4) _ (c .before .before .object .ensures)
+          (s .args .acquires .now) (s .pre .6) (s .pre .9) (c .before .if1 .taken),
+      s .pre .5,
     )
 
 slice-write-matches : tie.Need-slice-write-matches
 slice-write-matches c =
-    let s = c .before .before .before .before .before .before .before in
+    let s = c .before .before .before .before .before .before in
     omega (
       arith,
-      opened-bound (s .args .records .now) (s .pre .5) (s .args .e) (s .pre .0, s .pre .1) _
-          (c .before .before .before .operation .ensures) _ (c .before .before .object .ensures)
-          (s .args .acquires .now) (s .pre .4) (s .pre .7) (c .before .if1 .taken),
-      s .pre .3,
+      opened-bound (s .args .records .now) (s .pre .7) (s .args .e) (s .pre .0, s .pre .1) _
+          (s .pre .3, s .pre .4) _ (c .before .before .object .ensures)
+          (s .args .acquires .now) (s .pre .6) (s .pre .9) (c .before .if1 .taken),
+      s .pre .5,
     )
 
 mul-matches-2 : tie.Need-mul-matches-2
@@ -77,22 +75,47 @@ same-length c = search needs
 
 returns : tie.Need-returns
 returns c =
-    let s = c .before .before .before .before .before .before .before in (
+    let s = c .before .before .before .before .before .before in (
       search needs,
-      release-matched (s .args .records .now) (s .pre .5) (s .args .e) (s .pre .0, s .pre .1) _
-          (c .before .before .before .operation .ensures) _ (c .before .before .object .ensures)
-          (s .args .acquires .now) (s .pre .4) (s .pre .7) (c .before .if1 .taken)
-          (s .args .matches .now) (s .pre .6) (search needs),
-      no-acquire-latest (s .args .records .now) (s .pre .5) (s .args .e) (s .pre .0, s .pre .1) _
-          (c .before .before .before .operation .ensures) _ (c .before .before .object .ensures)
-          (s .args .acquires .now) (s .pre .4) (s .pre .7) (omega (arith, c .before .if1 .taken)),
+      release-matched (s .args .records .now) (s .pre .7) (s .args .e) (s .pre .0, s .pre .1) _
+          (s .pre .3, s .pre .4) _ (c .before .before .object .ensures)
+          (s .args .acquires .now) (s .pre .6) (s .pre .9) (c .before .if1 .taken)
+          (s .args .matches .now) (s .pre .8) (search needs),
+      no-acquire-latest (s .args .records .now) (s .pre .7) (s .args .e) (s .pre .0, s .pre .1) _
+          (s .pre .3, s .pre .4) _ (c .before .before .object .ensures)
+          (s .args .acquires .now) (s .pre .6) (s .pre .9) (omega (arith, c .before .if1 .taken)),
     )
+
+cast-matches-2 : tie.Need-cast-matches-2
+cast-matches-2 c = search needs
 
 mul-matches-3 : tie.Need-mul-matches-3
 mul-matches-3 c = search needs
 
 slice-write-matches-3 : tie.Need-slice-write-matches-3
 slice-write-matches-3 c = search needs
+
+same-length-2 : tie.Need-same-length-2
+same-length-2 c = search needs
+
+returns-2 : tie.Need-returns-2
+returns-2 c =
+    let s = c .before .before .before .before .before .before in (
+      search needs,
+      inner-marked (s .args .records .now) (s .pre .7) (s .args .e) (s .pre .0, s .pre .1) _
+          (s .pre .3, s .pre .4) _ (c .before .before .object .ensures)
+          (s .args .acquires .now) (s .pre .6) (s .pre .9) (c .if2 .taken)
+          (s .args .matches .now) (s .pre .8) (search needs),
+      no-acquire-latest (s .args .records .now) (s .pre .7) (s .args .e) (s .pre .0, s .pre .1) _
+          (s .pre .3, s .pre .4) _ (c .before .before .object .ensures)
+          (s .args .acquires .now) (s .pre .6) (s .pre .9) (omega (arith, c .if2 .taken)),
+    )
+
+mul-matches-4 : tie.Need-mul-matches-4
+mul-matches-4 c = search needs
+
+slice-write-matches-4 : tie.Need-slice-write-matches-4
+slice-write-matches-4 c = search needs
 
 cast-acquires : tie.Need-cast-acquires
 cast-acquires c = search needs
@@ -105,30 +128,14 @@ slice-write-acquires c =
     let s = c .before .before .before .before .before .before .before in
     omega (
       arith,
-      lock-bound (s .args .records .now) (s .pre .5) (s .args .e) (s .pre .0, s .pre .1) _
-          (c .before .before .before .operation .ensures) (omega (arith, c .if2 .taken)),
-      c .before .before .object .ensures,
-      s .pre .4,
+      lock-bound (s .args .records .now) (s .pre .7) (s .args .e) (s .pre .0, s .pre .1) _
+          (s .pre .3, s .pre .4) (omega (arith, c .if3 .taken)) (omega (arith, c .if3 .taken)),
+      c .before .before .before .object .ensures,
+      s .pre .6,
     )
-
-same-length-2 : tie.Need-same-length-2
-same-length-2 c = search needs
 
 same-length-3 : tie.Need-same-length-3
 same-length-3 c = search needs
-
-returns-2 : tie.Need-returns-2
-returns-2 c =
-    let s = c .before .before .before .before .before .before .before in (
-      search needs,
-      no-release-matched (s .args .records .now) (s .pre .5) (s .args .e) (s .pre .0, s .pre .1) _
-          (c .before .before .before .operation .ensures) _ (c .before .before .object .ensures)
-          (s .args .acquires .now) (s .pre .4) (s .pre .7) (c .before .if1 .left)
-          (s .args .matches .now) (s .pre .6) (search needs),
-      acquire-latest (s .args .records .now) (s .pre .5) (s .args .e) (s .pre .0, s .pre .1) _
-          (c .before .before .before .operation .ensures) _ (c .before .before .object .ensures)
-          (s .args .acquires .now) (s .pre .4) (s .pre .7) (c .if2 .taken),
-    )
 
 same-length-4 : tie.Need-same-length-4
 same-length-4 c = search needs
@@ -137,20 +144,35 @@ returns-3 : tie.Need-returns-3
 returns-3 c =
     let s = c .before .before .before .before .before .before .before in (
       search needs,
-      no-release-matched (s .args .records .now) (s .pre .5) (s .args .e) (s .pre .0, s .pre .1) _
-          (c .before .before .before .operation .ensures) _ (c .before .before .object .ensures)
-          (s .args .acquires .now) (s .pre .4) (s .pre .7) (c .before .if1 .left)
-          (s .args .matches .now) (s .pre .6) (search needs),
-      no-acquire-latest (s .args .records .now) (s .pre .5) (s .args .e) (s .pre .0, s .pre .1) _
-          (c .before .before .before .operation .ensures) _ (c .before .before .object .ensures)
-          (s .args .acquires .now) (s .pre .4) (s .pre .7) (c .if2 .left),
+      no-release-matched (s .args .records .now) (s .pre .7) (s .args .e) (s .pre .0, s .pre .1) _
+          (s .pre .3, s .pre .4) _ (c .before .before .before .object .ensures)
+          (s .args .acquires .now) (s .pre .6) (s .pre .9) (c .before .before .if1 .left)
+          (c .before .if2 .left) (s .args .matches .now) (s .pre .8) (search needs),
+      acquire-latest (s .args .records .now) (s .pre .7) (s .args .e) (s .pre .0, s .pre .1) _
+          (s .pre .3, s .pre .4) _ (c .before .before .before .object .ensures)
+          (s .args .acquires .now) (s .pre .6) (s .pre .9) (c .if3 .taken),
+    )
+
+same-length-5 : tie.Need-same-length-5
+same-length-5 c = search needs
+
+returns-4 : tie.Need-returns-4
+returns-4 c =
+    let s = c .before .before .before .before .before .before .before in (
+      search needs,
+      no-release-matched (s .args .records .now) (s .pre .7) (s .args .e) (s .pre .0, s .pre .1) _
+          (s .pre .3, s .pre .4) _ (c .before .before .before .object .ensures)
+          (s .args .acquires .now) (s .pre .6) (s .pre .9) (c .before .before .if1 .left)
+          (c .before .if2 .left) (s .args .matches .now) (s .pre .8) (search needs),
+      no-acquire-latest (s .args .records .now) (s .pre .7) (s .args .e) (s .pre .0, s .pre .1) _
+          (s .pre .3, s .pre .4) _ (c .before .before .before .object .ensures)
+          (s .args .acquires .now) (s .pre .6) (s .pre .9) (c .if3 .left),
     )
 
 pub note-match-spec : {M : Type 1} → statement M
 note-match-spec =
     tie.close
     (tie.spec
-    operation-requires
     object-requires
     cast-l
     mul-a
@@ -163,13 +185,18 @@ note-match-spec =
     slice-write-matches-2
     same-length
     returns
+    cast-matches-2
     mul-matches-3
     slice-write-matches-3
+    same-length-2
+    returns-2
+    mul-matches-4
+    slice-write-matches-4
     cast-acquires
     mul-acquires
     slice-write-acquires
-    same-length-2
     same-length-3
-    returns-2
     same-length-4
-    returns-3)
+    returns-3
+    same-length-5
+    returns-4)

@@ -9,7 +9,6 @@ use Rattle.relations.specs.Tables.{Tables}
 use Rattle.relations.proofs.Tabled.{
   tables-answer,
   locks-fit,
-  matching-fits,
   writer-fits,
   predecessor-fits,
 }
@@ -79,22 +78,14 @@ cast-t29 c =
           (s .pre .2) (inside s),
     )
 
-mul-t26 : tie.Need-mul-t26
-mul-t26 c = search needs
+mul-unmarked : tie.Need-mul-unmarked
+mul-unmarked c = search needs
 
-array-read-t33 : tie.Need-array-read-t33
-array-read-t33 c = search needs
+array-read-unmarked : tie.Need-array-read-unmarked
+array-read-unmarked c = search needs
 
-cast-t34 : tie.Need-cast-t34
-cast-t34 c =
-    let s = start c in
-    omega (
-      arith,
-      s .pre,
-      decodeAll-length (s .args .records .now),
-      matching-fits (filled c) (s .args .e)
-          (s .pre .2) (inside s),
-    )
+unmarked-requires : tie.Need-unmarked-requires
+unmarked-requires c κs = search needs
 
 mul-t35 : tie.Need-mul-t35
 mul-t35 c = search needs
@@ -104,12 +95,12 @@ array-read-t38 c = search needs
 
 cast-t39 : tie.Need-cast-t39
 cast-t39 c =
-    let s = start c in
+    let s = start (c .before) in
     omega (
       arith,
       s .pre,
       decodeAll-length (s .args .records .now),
-      writer-fits (filled c) (s .args .e)
+      writer-fits (filled (c .before)) (s .args .e)
           (s .pre .2) (inside s),
     )
 
@@ -121,18 +112,19 @@ array-read-t43 c = search needs
 
 cast-t44 : tie.Need-cast-t44
 cast-t44 c =
-    let s = start c in
+    let s = start (c .before) in
     omega (
       arith,
       s .pre,
       decodeAll-length (s .args .records .now),
-      predecessor-fits (filled c)
+      predecessor-fits (filled (c .before))
           (s .args .e) (s .pre .2) (inside s),
     )
 
 returns : tie.Need-returns
 returns c =
-    let s = start c in tables-answer (filled c) (s .args .e) (s .pre .2) (inside s)
+    let s = start (c .before) in
+    rw (c .unmarked .ensures) (tables-answer (filled (c .before)) (s .args .e) (s .pre .2) (inside s))
 
 pub relations-of-spec : {M : Type 1} → statement M
 relations-of-spec =
@@ -149,9 +141,9 @@ relations-of-spec =
     mul-mask
     array-read-mask
     cast-t29
-    mul-t26
-    array-read-t33
-    cast-t34
+    mul-unmarked
+    array-read-unmarked
+    unmarked-requires
     mul-t35
     array-read-t38
     cast-t39

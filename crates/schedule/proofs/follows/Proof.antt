@@ -11,7 +11,7 @@ use Rattle.laws.proofs.Questions.{events-sound}
 use Rattle.schedule.specs.Next.{isNext}
 use Rattle.laws.proofs.WellFormed.{acquire-lock}
 use Rattle.schedule.proofs.Asking.{asked-none, event-in, asked-later, asked-read, asked-other}
-use Rattle.schedule.proofs.Asking.{asked-acquire}
+use Rattle.schedule.proofs.Asking.{asked-inner, asked-acquire}
 use Rattle.schedule.proofs.follows.Statement.{statement}
 use Rattle.schedule.proofs.follows.Tie as tie
 
@@ -96,15 +96,33 @@ returns-5 c =
     (inside (c .before .before .before .before .before)) (next (c .before .before .before)) _
     (c .before .before .operation .ensures .1) (c .before .if4 .left) (c .if5 .taken)
 
+mul-if6 : tie.Need-mul-if6
+mul-if6 c = search needs
+
+shared-slice-read-if6 : tie.Need-shared-slice-read-if6
+shared-slice-read-if6 c =
+    let s = c .before .before .before .before .before .before .before .before .before .before .before .before .before .before .before in
+    let i = inside (c .before .before .before .before .before .before) in
+    omega (arith, i, s .pre .0, s .pre .2 .reading .matching-long)
+
+returns-6 : tie.Need-returns-6
+returns-6 c =
+    let s = c .before .before .before .before .before .before .before .before .before .before .before .before .before .before .before .before in
+    let i = inside (c .before .before .before .before .before .before .before) in
+    let (h, k) = event-in (s .args .records .now) (s .args .e) i in
+    asked-inner (s .args .records .now) (s .pre .1) _ _ _ (s .args .e) i (next (c .before .before .before .before .before)) _
+    (c .before .before .before .before .operation .ensures .1) (c .before .before .if5 .left) _
+    (s .pre .2 .reading .matching-at (s .args .e) h k) (c .if6 .taken)
+
 is-unlocked-requires : tie.Need-is-unlocked-requires
 is-unlocked-requires c κs =
-    let s = c .before .before .before .before .before .before .before .before .before .before .before
-    .before .before .before in
+    let s = c .before .before .before .before .before .before .before .before .before .before .before .before .before .before .before .before in
     let b = s .args .records .now in
+    let i = inside (c .before .before .before .before .before .before .before) in
     let lock = acquire-lock (decodeAll b) (events-sound b (s .pre .1)) (s .args .e) _
-    (c .before .before .operation .ensures .1) (c .if5 .left) in (
-      inside (c .before .before .before .before .before) .0,
-      omega (arith, inside (c .before .before .before .before .before)),
+    (c .before .before .before .before .operation .ensures .1) (c .before .before .if5 .left) in (
+      i .0,
+      omega (arith, i),
       s .pre .0,
       s .pre .2 .reading .matching-long,
       s .pre .3 .last-long,
@@ -114,14 +132,15 @@ is-unlocked-requires c κs =
       s .pre .2 .reading .matching-at,
     )
 
-returns-6 : tie.Need-returns-6
-returns-6 c =
-    let s = c .before .before .before .before .before .before .before .before .before .before .before
-    .before .before .before .before in
-    asked-acquire (s .args .records .now) (s .pre .1) _ _ _ (s .args .e)
-    (inside (c .before .before .before .before .before .before))
-    (next (c .before .before .before .before)) _
-    (c .before .before .before .operation .ensures .1) (c .before .if5 .left) _ (c .is-unlocked .ensures)
+returns-7 : tie.Need-returns-7
+returns-7 c =
+    let s = c .before .before .before .before .before .before .before .before .before .before .before .before .before .before .before .before .before in
+    let i = inside (c .before .before .before .before .before .before .before .before) in
+    let (h, k) = event-in (s .args .records .now) (s .args .e) i in
+    asked-acquire (s .args .records .now) (s .pre .1) _ _ _ (s .args .e) i (next (c .before .before .before .before .before .before)) _
+    (c .before .before .before .before .before .operation .ensures .1) (c .before .before .before .if5 .left) _
+    (s .pre .2 .reading .matching-at (s .args .e) h k) (c .before .if6 .left) _
+    (c .is-unlocked .ensures)
 
 pub follows-spec : {M : Type 1} → statement M
 follows-spec =
@@ -140,5 +159,8 @@ follows-spec =
     shared-slice-read-result-2
     returns-4
     returns-5
+    mul-if6
+    shared-slice-read-if6
+    returns-6
     is-unlocked-requires
-    returns-6)
+    returns-7)

@@ -7,6 +7,7 @@ use borrow.Author.Tests.{not-true, not-false}
 use lib.ListN.{length}
 use Rattle.model.specs.Recording.{decodeAll}
 use Rattle.model.specs.Bytes.{numbers}
+use Rattle.laws.proofs.Trace.{decodeAll-length}
 use Rattle.schedule.proofs.Walk.{Walking, listed-ready, follows-in, walking-start, walking-stop}
 use Rattle.schedule.proofs.Walk.{walking-may, walking-next, walking-end}
 use Rattle.schedule.proofs.keeps_order.Statement.{statement}
@@ -76,10 +77,21 @@ note-requires c κs =
     (not-false (c .before .before .before .before .follows .result)
     (c .before .before .before .if1 .left)) in
     let (h, j) = follows-in (s .args .records .now) _ _ may in
-    (h, j, s .pre .1, listed-ready _ _ _ _ _ (k .inv .1 .tables))
+    let size = decodeAll-length (s .args .records .now) in (
+      h,
+      j,
+      omega (arith, j, s .pre .0, s .pre .2 .reading .matching-long),
+      s .pre .2 .reading .matching-at _ h (omega (arith, j, size)),
+      s .pre .1,
+      listed-ready _ _ _ _ _ (k .inv .1 .tables),
+    )
 
 add-i : tie.Need-add-i Inv-loop μ-loop
-add-i c = search needs
+add-i c =
+    let k = c .before .before .before .before .before .before .before .before .before .before .before .before .before .before in
+    let t = k .loop-test .taken in
+    let q = k .before .before .before .before .before .before .before .before .good in
+    omega (arith, t, q .1 .1 .1 .1 .0 .0)
 
 loop-less : tie.Need-loop-less Inv-loop μ-loop
 loop-less c = search needs

@@ -5,13 +5,12 @@ use Rattle.model.specs.Recording.{decodeAll}
 use Rattle.laws.proofs.Questions.{events-sound}
 use Rattle.laws.proofs.WellFormed.{acquire-lock}
 use Rattle.laws.proofs.Trace.{Unpacked}
-use Rattle.schedule.proofs.Noting.{write-noted, acquire-noted, other-noted}
+use Rattle.schedule.proofs.Noting.{write-noted, inner-noted, acquire-noted, other-noted}
 use Rattle.schedule.proofs.note.Statement.{statement}
 use Rattle.schedule.proofs.note.Tie as tie
 
 -- The event as it was unpacked.
-unpacked : (c : tie.After-object) → let a =
-    c .before .before .before .before .before .before .before .args in
+unpacked : (c : tie.After-object) → let a = c .before .before .before .before .before .before .before .before .args in
     Unpacked (decodeAll (a .records .now)) (a .e) (c .before .operation .result)
     (c .before .before .task .result)
     (c .object .result)
@@ -56,44 +55,56 @@ same-length-2 c = search needs
 
 returns : tie.Need-returns
 returns c =
-    let s = c .before .before .before .before .before .before .before .before in
-    λ before z t. write-noted _ (events-sound (s .args .records .now) (s .pre .2)) (unpacked (c .before))
-    before
-    _ _ _ z t (c .if1 .taken)
+    let s = c .before .before .before .before .before .before .before .before .before in
+    λ before z t. write-noted _ (events-sound (s .args .records .now) (s .pre .4))
+    (unpacked (c .before)) before _ _ _ z t (c .if1 .taken)
+
+same-length-3 : tie.Need-same-length-3
+same-length-3 c = search needs
+
+returns-2 : tie.Need-returns-2
+returns-2 c =
+    let s = c .before .before .before .before .before .before .before .before .before .before in
+    λ before z t. other-noted _ (events-sound (s .args .records .now) (s .pre .4))
+    (unpacked (c .before .before)) before _ _ _ z t (c .before .if1 .left) (c .if2 .taken)
+
+mul-if3 : tie.Need-mul-if3
+mul-if3 c = search needs
+
+shared-slice-read-if3 : tie.Need-shared-slice-read-if3
+shared-slice-read-if3 c = search needs
+
+same-length-4 : tie.Need-same-length-4
+same-length-4 c = search needs
+
+returns-3 : tie.Need-returns-3
+returns-3 c =
+    let s = c .before .before .before .before .before .before .before .before .before .before .before .before in
+    λ before z t. inner-noted _ (events-sound (s .args .records .now) (s .pre .4))
+    (unpacked (c .before .before .before .before)) before _ _ _ z t (c .before .before .if2 .left) (s .pre .0) _ (s .pre .3) (c .if3 .taken)
 
 mul-acquires : tie.Need-mul-acquires
 mul-acquires c = search needs
 
 slice-write-acquires : tie.Need-slice-write-acquires
 slice-write-acquires c =
-    let s = c .before .before .before .before .before .before .before .before .before in
+    let s = c .before .before .before .before .before .before .before .before .before .before .before .before in
     let b = s .args .records .now in
-    let lock = acquire-lock (decodeAll b) (events-sound b (s .pre .2)) (s .args .e) _
-    (c .before .before .before .operation .ensures .1) (c .if2 .taken) in
-    omega (arith, lock, c .before .before .object .ensures, s .pre .3 .acquire-long)
-
-same-length-3 : tie.Need-same-length-3
-same-length-3 c = search needs
-
-same-length-4 : tie.Need-same-length-4
-same-length-4 c = search needs
-
-returns-2 : tie.Need-returns-2
-returns-2 c =
-    let s = c .before .before .before .before .before .before .before .before .before in
-    λ before z t. acquire-noted _ (events-sound (s .args .records .now) (s .pre .2))
-    (unpacked (c .before .before)) before
-    _ _ _ z t (c .if2 .taken)
+    let lock = acquire-lock (decodeAll b) (events-sound b (s .pre .4)) (s .args .e) _
+    (c .before .before .before .before .before .operation .ensures .1) (c .before .before .if2 .left) in
+    omega (arith, lock, c .before .before .before .before .object .ensures, s .pre .5 .acquire-long)
 
 same-length-5 : tie.Need-same-length-5
 same-length-5 c = search needs
 
-returns-3 : tie.Need-returns-3
-returns-3 c =
-    let s = c .before .before .before .before .before .before .before .before .before in
-    λ before z t. other-noted _ (events-sound (s .args .records .now) (s .pre .2))
-    (unpacked (c .before .before)) before
-    _ _ _ z t (c .before .if1 .left) (c .if2 .left)
+same-length-6 : tie.Need-same-length-6
+same-length-6 c = search needs
+
+returns-4 : tie.Need-returns-4
+returns-4 c =
+    let s = c .before .before .before .before .before .before .before .before .before .before .before .before in
+    λ before z t. acquire-noted _ (events-sound (s .args .records .now) (s .pre .4))
+    (unpacked (c .before .before .before .before)) before _ _ _ z t (c .before .before .if2 .left) (s .pre .0) _ (s .pre .3) (c .if3 .left)
 
 pub note-spec : {M : Type 1} → statement M
 note-spec =
@@ -111,10 +122,14 @@ note-spec =
     same-length
     same-length-2
     returns
+    same-length-3
+    returns-2
+    mul-if3
+    shared-slice-read-if3
+    same-length-4
+    returns-3
     mul-acquires
     slice-write-acquires
-    same-length-3
-    same-length-4
-    returns-2
     same-length-5
-    returns-3)
+    same-length-6
+    returns-4)

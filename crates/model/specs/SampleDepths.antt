@@ -1,0 +1,144 @@
+-- Locks that their holder takes again: for each clause of 02's job 9 a recording that shows it. One record of
+-- facts and one proof, by computation. Row J, which is such a recording, is in Rows.
+use Prim.Native.Nat.{ℕ}
+use mathlib.Core.Path.{_≡_, refl}
+use mathlib.Core.Bool.{true, false}
+use mathlib.Core.List.{List, [], _∷_, _++_}
+use lib.Count.{ones, onesIn}
+use lib.ListN.{replicate}
+use Rattle.model.specs.Bytes.{encode}
+use Rattle.model.specs.Trace.{depth}
+use Rattle.model.specs.Recording.{trace}
+use Rattle.model.specs.EventSet.{noEvents, withAll, members}
+use Rattle.model.specs.Closure.{closure}
+use Rattle.model.specs.Schedule.{syncPreserving}
+use Rattle.model.specs.Calls.Questions.{outcome}
+use Rattle.model.specs.Calls.Check.{check}
+use Rattle.model.specs.Calls.Relations.{relations, relationsRefusal}
+use Rattle.model.specs.Calls.List.{listing}
+use Rattle.model.specs.Calls.Verdict.{verdict}
+use Rattle.model.specs.Calls.Witness.{witnessOut}
+use Rattle.model.specs.Calls.Load.{load}
+use Rattle.model.specs.Opened.{opened}
+use Rattle.model.specs.Rows.{blank}
+use Rattle.model.specs.SampleQuestions.{noPattern}
+use Rattle.model.specs.SampleSchedules.{valid}
+use Rattle.model.specs.SampleAnswers.{related}
+use Rattle.model.specs.Recordings.{recording, by, acq, rel}
+
+-- Task 0 takes lock 0 twice and gives it back twice; then task 1 takes it.
+abbrev pub nested : List ℕ
+nested = recording (by 0 (acq 0 ∷ acq 0 ∷ rel 0 ∷ rel 0 ∷ []) ++ by 1 (acq 0 ∷ []))
+
+-- Row A, in which each task's first lock has an inner section right before the second one is taken.
+abbrev pub between : List ℕ
+between =
+    recording
+    (by 0 (acq 0 ∷ acq 0 ∷ rel 0 ∷ acq 1 ∷ rel 1 ∷ rel 0 ∷ [])
+    ++ by 1 (acq 1 ∷ acq 1 ∷ rel 1 ∷ acq 0 ∷ rel 0 ∷ rel 1 ∷ []))
+
+-- Row A, in which task 0 takes lock 1 twice.
+abbrev pub twice : List ℕ
+twice =
+    recording
+    (by 0 (acq 0 ∷ acq 1 ∷ acq 1 ∷ rel 1 ∷ rel 1 ∷ rel 0 ∷ []) ++ by 1 (acq 1 ∷ acq 0 ∷ rel 0 ∷ rel 1 ∷ []))
+
+-- Row E, in which task 1's first section of lock 1 has an inner one.
+abbrev pub earlier : List ℕ
+earlier =
+    recording
+    (by 0 (acq 0 ∷ acq 1 ∷ rel 1 ∷ rel 0 ∷ [])
+    ++ by 1 (acq 1 ∷ acq 1 ∷ rel 1 ∷ rel 1 ∷ acq 1 ∷ acq 0 ∷ rel 0 ∷ rel 1 ∷ []))
+
+-- All samples of depths.
+pub record SampleDepths : Type 0 where
+  -- The depth right before and after each event of `nested`; another task's is its own, and a byte is too
+  -- small for some.
+  pub depth-first : depth (trace nested) 1 0 0 ≡ 0
+  pub depth-outer : depth (trace nested) 2 0 0 ≡ 1
+  pub depth-inner : depth (trace nested) 3 0 0 ≡ 2
+  pub depth-back : depth (trace nested) 4 0 0 ≡ 1
+  pub depth-last : depth (trace nested) 5 0 0 ≡ 0
+  pub depth-other : depth (trace nested) 6 1 0 ≡ 1
+  pub depth-large : depth (trace (recording (by 0 (replicate 256 (acq 0))))) 257 0 0 ≡ 256
+  -- 5 only where another task holds the lock: at depth 2, and at depth 1 again; not once it is given back.
+  pub five-deep : check (recording (by 0 (acq 0 ∷ acq 0 ∷ []) ++ by 1 (acq 0 ∷ []))) ≡ outcome 5 3
+  pub five-kept : check (recording (by 0 (acq 0 ∷ acq 0 ∷ rel 0 ∷ []) ++ by 1 (acq 0 ∷ []))) ≡ outcome 5 4
+  pub five-not : check nested ≡ outcome 0 0
+  pub five-later : check (recording (by 0 (acq 0 ∷ acq 0 ∷ rel 0 ∷ rel 0 ∷ []) ++ by 1 (acq 0 ∷ [])
+      ++ by 0 (acq 0 ∷ []))) ≡ outcome 5 6
+  -- 6 for a release beyond the depth, and for one of a lock that another task has deep.
+  pub six-beyond : check (recording (by 0 (acq 0 ∷ acq 0 ∷ rel 0 ∷ rel 0 ∷ rel 0 ∷ []))) ≡ outcome 6 5
+  pub six-other : check (recording (by 0 (acq 0 ∷ acq 0 ∷ []) ++ by 1 (rel 0 ∷ []))) ≡ outcome 6 3
+  -- Relations: held locks and their count, match, writer, predecessor. The outer ones are each other's match;
+  -- the inner ones have match 0, and their own lock among the held ones, once.
+  pub outer-acquire : relations nested 1 ≡ related 0 0 4 0 0
+  pub inner-acquire : relations nested 2 ≡ related 1 1 0 0 1
+  pub inner-release : relations nested 3 ≡ related 1 1 0 0 2
+  pub outer-release : relations nested 4 ≡ related 1 1 1 0 3
+  -- The match of an acquire is the release to depth 0: the closure has it, with two outer acquires of a lock;
+  -- an inner one is no second.
+  pub closes-outer : members (trace nested)
+      (closure (trace nested) (withAll (noEvents (trace nested)) (1 ∷ 5 ∷ [])))
+      ≡ 1 ∷ 2 ∷ 3 ∷ 4 ∷ 5 ∷ []
+  pub closes-inner : members (trace nested)
+      (closure (trace nested) (withAll (noEvents (trace nested)) (2 ∷ [])))
+      ≡ 1 ∷ 2 ∷ []
+  -- Schedules: inner events in task order alone; a lock is free after the release to depth 0, not before.
+  pub schedule-outer : syncPreserving (trace nested) (1 ∷ 2 ∷ 3 ∷ 4 ∷ 5 ∷ []) ≡ true
+  pub schedule-inner : syncPreserving (trace nested) (1 ∷ 2 ∷ 3 ∷ 5 ∷ []) ≡ false
+  pub schedule-order : syncPreserving (trace nested) (1 ∷ 3 ∷ 2 ∷ []) ≡ false
+  -- A pattern of outer acquires, between which inner sections lie; its witness, and another schedule.
+  pub between-listed : listing between 0 ≡ (4 ∷ 10 ∷ []) ∷ []
+  pub between-witness : witnessOut between (encode (4 ∷ 10 ∷ [])) (blank 12)
+      ≡ encode (1 ∷ 2 ∷ 3 ∷ 7 ∷ 8 ∷ 9 ∷ [])
+  pub between-mixed : valid between (4 ∷ 10 ∷ []) (7 ∷ 1 ∷ 8 ∷ 2 ∷ 3 ∷ 9 ∷ []) ≡ true
+  pub between-order : valid between (4 ∷ 10 ∷ []) (1 ∷ 3 ∷ 2 ∷ 7 ∷ 8 ∷ 9 ∷ []) ≡ false
+  pub between-short : valid between (4 ∷ 10 ∷ []) (1 ∷ 7 ∷ 8 ∷ 9 ∷ []) ≡ false
+  -- An inner acquire is in no pattern.
+  pub twice-listed : listing twice 0 ≡ (2 ∷ 8 ∷ []) ∷ []
+  pub twice-inner : verdict twice (encode (3 ∷ 8 ∷ [])) ≡ noPattern
+  -- The section before the pattern's is whole, its inner one included.
+  pub earlier-listed : listing earlier 0 ≡ (2 ∷ 10 ∷ []) ∷ []
+  pub earlier-witness : witnessOut earlier (encode (2 ∷ 10 ∷ [])) (blank 12)
+      ≡ encode (1 ∷ 5 ∷ 6 ∷ 7 ∷ 8 ∷ 9 ∷ [])
+  -- Load: held after events 1, 2, 3 and 5 of 5.
+  pub load-deep : load nested 0 ≡ record { refusal = 0; event = 0; percent = 80 }
+
+-- Every sample of depths holds, by computation.
+pub sampleDepths : SampleDepths
+unfolding opened relations relationsRefusal ones onesIn
+sampleDepths = record {
+  depth-first = refl;
+  depth-outer = refl;
+  depth-inner = refl;
+  depth-back = refl;
+  depth-last = refl;
+  depth-other = refl;
+  depth-large = refl;
+  five-deep = refl;
+  five-kept = refl;
+  five-not = refl;
+  five-later = refl;
+  six-beyond = refl;
+  six-other = refl;
+  outer-acquire = refl;
+  inner-acquire = refl;
+  inner-release = refl;
+  outer-release = refl;
+  closes-outer = refl;
+  closes-inner = refl;
+  schedule-outer = refl;
+  schedule-inner = refl;
+  schedule-order = refl;
+  between-listed = refl;
+  between-witness = refl;
+  between-mixed = refl;
+  between-order = refl;
+  between-short = refl;
+  twice-listed = refl;
+  twice-inner = refl;
+  earlier-listed = refl;
+  earlier-witness = refl;
+  load-deep = refl;
+}
