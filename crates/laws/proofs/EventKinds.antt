@@ -6,11 +6,10 @@ use mathlib.Core.Bool.{true, false, cond, not, _&&_, _||_}
 use native.Mathlib.Omega.{arith}
 use lib.Dec.{T, eqb}
 use borrow.Author.Tests.{ne-eqb}
-use Rattle.model.specs.Trace.{Trace, locks, at, object, isRead, isWrite, enters, leaves, ownDepth, isAcquire}
+use Rattle.model.specs.Trace.{Trace, at, enters, leaves, ownDepth, isAcquire}
 use Rattle.model.specs.Trace.{isRelease}
 use Rattle.laws.specs.EventKinds.{innerKind, isInner, kind}
 use Rattle.laws.proofs.Tests.{decided, equal?}
-use Rattle.laws.proofs.WellFormed.{WellFormed, acquire-lt}
 
 -- The kind of an operation at a depth.
 abbrev kindOf : ℕ → ℕ → ℕ
@@ -25,25 +24,7 @@ by-operation P two three other op d =
     (equal? op 2)
 
 module _ (σ : Trace) (e : ℕ) {k : ℕ} (q : k ≡ kind σ e) where
-  -- A read's kind is 0,
-  pub isRead-kind : isRead σ e ≡ eqb k 0
-  unfolding kind isInner isRead enters leaves
-  isRead-kind =
-      rw q (by-operation (λ op d. eqb op 0 ≡ eqb (kindOf op d) 0)
-      (λ d. decided (eqb d 0) (λ y. rw y) (λ n. rw n))
-      (λ d. decided (eqb d 1) (λ y. rw y) (λ n. rw n))
-      (λ op d m n. rw (ne-eqb op 2 m, ne-eqb op 3 n)) (at σ e .op) (ownDepth σ e))
-
-  -- a write's is 1,
-  pub isWrite-kind : isWrite σ e ≡ eqb k 1
-  unfolding kind isInner isWrite enters leaves
-  isWrite-kind =
-      rw q (by-operation (λ op d. eqb op 1 ≡ eqb (kindOf op d) 1)
-      (λ d. decided (eqb d 0) (λ y. rw y) (λ n. rw n))
-      (λ d. decided (eqb d 1) (λ y. rw y) (λ n. rw n))
-      (λ op d m n. rw (ne-eqb op 2 m, ne-eqb op 3 n)) (at σ e .op) (ownDepth σ e))
-
-  -- an outer acquire's is 2,
+  -- An outer acquire's kind is 2,
   pub isAcquire-kind : isAcquire σ e ≡ eqb k 2
   unfolding kind isInner isAcquire enters leaves
   isAcquire-kind =
@@ -52,7 +33,7 @@ module _ (σ : Trace) (e : ℕ) {k : ℕ} (q : k ≡ kind σ e) where
       (λ d. decided (eqb d 1) (λ y. rw y) (λ n. rw n))
       (λ op d m n. rw (ne-eqb op 2 m, ne-eqb op 3 n) (sym (ne-eqb op 2 m))) (at σ e .op) (ownDepth σ e))
 
-  -- and an outer release's is 3.
+  -- an outer release's is 3,
   pub isRelease-kind : isRelease σ e ≡ eqb k 3
   unfolding kind isInner isRelease enters leaves
   isRelease-kind =
@@ -61,7 +42,7 @@ module _ (σ : Trace) (e : ℕ) {k : ℕ} (q : k ≡ kind σ e) where
       (λ d. decided (eqb d 1) (λ y. rw y) (λ n. rw n))
       (λ op d m n. rw (ne-eqb op 2 m, ne-eqb op 3 n) (sym (ne-eqb op 3 n))) (at σ e .op) (ownDepth σ e))
 
-  -- An inner one's is 4.
+  -- and an inner one's is 4.
   pub isInner-kind : at σ e .op ≢ innerKind → isInner σ e ≡ eqb k innerKind
   unfolding kind
   isInner-kind d =
@@ -101,7 +82,3 @@ module _ (σ : Trace) (e : ℕ) {op : ℕ} (q : op ≡ at σ e .op) where
   pub kind-leave : op ≡ 3 → (d : ℕ) → ownDepth σ e ≡ d → cond (eqb d 1) 3 innerKind ≡ kind σ e
   unfolding kind isInner enters leaves
   kind-leave a d p = rw (← q, a, p) (decided (eqb d 1) (λ y. rw y) (λ n. rw n))
-
--- In a well-formed trace the object of an outer acquire is a lock.
-pub kind-lock : (σ : Trace) → WellFormed σ → (e k : ℕ) → k ≡ kind σ e → k ≡ 2 → object σ e < locks
-kind-lock σ ok e k q a = acquire-lt σ ok e (rw (isAcquire-kind σ e q, a) tt)

@@ -8,7 +8,7 @@ use lib.ListN.{length}
 use lib.Dec.{T, eqb, ltb, ltb→lt, lt→ltb}
 use borrow.Author.Tests.{eq-eqb, ne-eqb, lt-ltb, le-ltb}
 use Rattle.model.specs.Trace.{Trace, locks, at, task, object, isRead, isWrite, enters, leaves}
-use Rattle.model.specs.Trace.{ownDepth, isAcquire, isRelease}
+use Rattle.model.specs.Trace.{ownDepth, isAcquire}
 use Rattle.model.specs.Relations.{holds, writer}
 use Rattle.model.specs.WellFormed.{isFree, fault, firstFault}
 use Rattle.model.specs.Calls.Questions.{outcome}
@@ -44,18 +44,9 @@ module _ (σ : Trace) (e : ℕ) {op : ℕ} (q : op ≡ at σ e .op) where
   unfolding isAcquire
   isAcquire-op = rw enters-op
 
-  -- For an outer release.
-  pub isRelease-op : isRelease σ e ≡ (eqb op 3 && eqb (ownDepth σ e) 1)
-  unfolding isRelease
-  isRelease-op = rw leaves-op
-
-  -- Another operation is no outer acquire,
+  -- Another operation is no outer acquire.
   pub isAcquire-none : op ≢ 2 → isAcquire σ e ≡ false
   isAcquire-none d = rw (isAcquire-op, ne-eqb op 2 d)
-
-  -- nor an outer release.
-  pub isRelease-none : op ≢ 3 → isRelease σ e ≡ false
-  isRelease-none d = rw (isRelease-op, ne-eqb op 3 d)
 
   -- 4: an acquire or release of what is no lock.
   pub fault-lock : 2 ≤ op → op ≤ 3 → locks ≤ object σ e → fault σ e ≡ 4

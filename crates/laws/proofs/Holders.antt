@@ -1,208 +1,247 @@
--- Who holds a lock after one event more, and how one event changes a table of holders; what that holds is in
--- specs/Walked. Assumes nothing.
-use Prim.Native.Nat.{ℕ, zero, suc, _≤_, _<_}
+-- How one event changes the holder and the depth of a lock, and tables of both; what they hold is in
+-- specs/Walked. Well-formedness is not used: the questions are asked with these tables. Assumes nothing.
+use Prim.Native.Nat.{ℕ, zero, suc, _-_, _≤_, _<_}
 use mathlib.Core.Path.{_≡_, refl, sym, _∙_}
 use mathlib.Core.Logic.{⊎-elim, _≢_}
-use mathlib.Core.Bool.{Bool, true, false, not, _&&_, _||_, or-false}
+use mathlib.Core.Bool.{Bool, true, false, cond, not, _||_}
 use mathlib.Core.List.{List}
 use native.Mathlib.Omega.{arith}
-use lib.Dec.{T, eqb, eqb→eq, eqb-refl, eqb·zero-suc, eqb·suc-suc, ltb, ltb→lt, lt→ltb}
+use lib.Dec.{T, eqb, eqb→eq, eqb-refl, eqb·zero-suc, eqb·suc-zero, eqb·suc-suc, ltb, ltb→lt, lt→ltb}
 use lib.ListN.{getD, set, replicate, length-set, length-replicate, getD-replicate}
 use lib.Seq.{getD-set-same, getD-set-other}
-use borrow.Author.Tests.{eq-eqb, ne-eqb, eqb-true, eqb-false}
+use borrow.Author.Tests.{eq-eqb, ne-eqb, eqb-true, eqb-false, lt-ltb}
 use Rattle.model.specs.Lists.{all, any, from}
-use Rattle.model.specs.Trace.{Trace, tasks, locks, task, object, enters, depth, isAcquire, isRelease}
+use Rattle.model.specs.Trace.{Trace, tasks, locks, task, object, enters, leaves, depth, ownDepth}
 use Rattle.model.specs.Relations.{holds}
 use Rattle.model.specs.WellFormed.{isFree}
 use Rattle.laws.specs.Walked.{Holder, Holders}
-use Rattle.laws.proofs.Tests.{decided, equal?, T-ext, is-true, or-r, or-elim}
+use Rattle.laws.proofs.Tests.{decided, equal?, T-ext, or-r, or-elim, is-true}
 use Rattle.laws.proofs.Lists.{all-iff, any-iff, from-iff}
-use Rattle.laws.proofs.Depth.{isAcquire-iff, isRelease-iff, holds-iff, depth-start, depth-moved}
-use Rattle.laws.proofs.Depth.{depth-enter, depth-leave, depth-apart, depth-other, first-acquire}
-use Rattle.laws.proofs.Depth.{last-release, own-depth}
+use Rattle.laws.proofs.Depth.{depth-start, depth-enter, depth-leave, depth-apart, depth-other}
+use Rattle.laws.proofs.Depth.{depth-access, depth-le}
 
 module _ (σ : Trace) where
-  -- ---- one event more
+  -- ---- one lock
 
-  -- Before event 1 nothing is held.
-  pub holds-start : (t l : ℕ) → holds σ 1 t l ≡ false
+  -- A lock that has a holder is at a depth above 0.
+  pub holder-deep : {e l h d : ℕ} → Holder σ e l h d → h ≢ 0 → 0 < d
+  holder-deep {h = h} {d = d} z n = let m = eqb-false d 0 (sym (z .none) ∙ ne-eqb h 0 n) in omega arith
+
+  -- A task holds the lock where it is the holder.
+  pub holder-holds : {e l h d : ℕ} → Holder σ e l h d → (t : ℕ) → t < tasks → holds σ e t l ≡ eqb h (suc t)
   unfolding holds
-  holds-start t l = rw (depth-start σ t l)
+  holder-holds {h = h} {d = d} z t b =
+      rw (z .at t b) (decided (eqb h (suc t))
+      (λ y. rw y (lt-ltb 0 d (holder-deep z (omega (arith, eqb-true h (suc t) y)))))
+      (λ n. rw n))
 
-  -- What leaves a depth leaves the holding.
-  holds-keep : (e t l : ℕ) → depth σ (suc e) t l ≡ depth σ e t l → holds σ (suc e) t l ≡ holds σ e t l
-  unfolding holds
-  holds-keep e t l q = rw q
-
-  -- An event with another object changes nothing.
-  pub holds-apart : (e t l : ℕ) → object σ e ≢ l → holds σ (suc e) t l ≡ holds σ e t l
-  holds-apart e t l d = holds-keep e t l (depth-apart σ e t l d)
-
-  -- Another task's event changes nothing.
-  pub holds-other : (e t l : ℕ) → task σ e ≢ t → holds σ (suc e) t l ≡ holds σ e t l
-  holds-other e t l d = holds-keep e t l (depth-other σ e t l d)
-
-  -- An event that is no outer acquire or release changes nothing: a read, a write, and an inner one.
-  pub holds-access : (e t l : ℕ) → isAcquire σ e ≡ false → isRelease σ e ≡ false
-      → holds σ (suc e) t l ≡ holds σ e t l
-  holds-access e t l a r = T-ext _ _ there back
+  -- Some task does where the depth is above 0.
+  pub holder-any : {e l h d : ℕ} → Holder σ e l h d → any (λ t. holds σ e t l) (from 0 tasks) ≡ ltb 0 d
+  holder-any {e} {l} {h} {d} z = T-ext _ _ there (λ p. back h z (ltb→lt 0 d p))
     where
-      there : T (holds σ (suc e) t l) → T (holds σ e t l)
-      there h =
-          ⊎-elim (λ z.
-          let acquire = first-acquire σ t l e (depth-moved σ e t l) z (holds-iff σ (suc e) t l .0 h) .0 in
-          absurd (rw a at acquire))
-          (λ d. holds-iff σ e t l .1 (omega arith)) (equal? (depth σ e t l) 0)
+      there : T (any (λ t. holds σ e t l) (from 0 tasks)) → T (ltb 0 d)
+      there p =
+          let (t, m, k) = any-iff (λ t. holds σ e t l) (from 0 tasks) .0 p in
+          let same : h ≡ suc t = eqb→eq h (suc t) (rw (holder-holds z t (from-iff 0 tasks t .0 m .1)) at k) in
+          lt→ltb 0 d (holder-deep z (omega arith))
 
-      back : T (holds σ e t l) → T (holds σ (suc e) t l)
-      back h =
-          ⊎-elim
-          (λ z. absurd (rw r at (last-release σ t l e (depth-moved σ e t l) (holds-iff σ e t l .0 h) z .0)))
-          (λ d. holds-iff σ (suc e) t l .1 (omega arith)) (equal? (depth σ (suc e) t l) 0)
-
-  -- The task of an acquire, from whatever depth, holds its lock.
-  pub holds-enter : (e t l : ℕ) → enters σ e ≡ true → object σ e ≡ l
-      → holds σ (suc e) t l ≡ (eqb (task σ e) t || holds σ e t l)
-  holds-enter e t l a q =
-      decided (eqb (task σ e) t)
-      (λ y. rw y (is-true (holds σ (suc e) t l) (taken (eqb-true (task σ e) t y))))
-      (λ n. rw n (holds-other e t l (eqb-false (task σ e) t n)))
-    where
-      taken : task σ e ≡ t → T (holds σ (suc e) t l)
-      taken p = holds-iff σ (suc e) t l .1 (omega (arith, depth-enter σ e t l (rw a tt) p q))
-
-  -- So does that of an outer one.
-  pub holds-acquire : (e t l : ℕ) → isAcquire σ e ≡ true → object σ e ≡ l
-      → holds σ (suc e) t l ≡ (eqb (task σ e) t || holds σ e t l)
-  holds-acquire e t l a = holds-enter e t l (is-true (enters σ e) (isAcquire-iff σ e .0 (rw a tt) .0))
-
-  -- The task of an outer release does not hold its lock.
-  pub holds-release : (e t l : ℕ) → isAcquire σ e ≡ false → isRelease σ e ≡ true → object σ e ≡ l
-      → holds σ (suc e) t l ≡ (not (eqb (task σ e) t) && holds σ e t l)
-  unfolding holds
-  holds-release e t l a r q =
-      decided (eqb (task σ e) t)
-      (λ y. rw y (given (eqb-true (task σ e) t y)))
-      (λ n. rw n (holds-other e t l (eqb-false (task σ e) t n)))
-    where
-      given : task σ e ≡ t → holds σ (suc e) t l ≡ false
-      given p =
-          let (h, d) = isRelease-iff σ e .0 (rw r tt) in
-          let one = own-depth σ t l e (record { task-is = p; object-is = q }) in
-          let none : depth σ (suc e) t l ≡ 0 = omega (arith, depth-leave σ e t l h p q) in
-          rw none
-
-  -- ---- the holder of a lock
-
-  -- Before event 1 no task holds it.
-  pub holder-start : (l : ℕ) → Holder σ 1 l 0
-  holder-start l =
-      record { bound = omega arith; holder = λ t h. rw (holds-start t l, eqb·zero-suc t) }
-
-  -- An event that changes nothing for any task leaves the holder.
-  pub holder-keep : (e l h : ℕ) → ((t : ℕ) → holds σ (suc e) t l ≡ holds σ e t l) → Holder σ e l h
-      → Holder σ (suc e) l h
-  holder-keep e l h k z = record { bound = z .bound; holder = λ t u. k t ∙ z .holder t u }
-
-  -- An acquire of a free lock makes its task the holder.
-  pub holder-acquire : (e l : ℕ) → isAcquire σ e ≡ true → object σ e ≡ l → task σ e < tasks → Holder σ e l 0
-      → Holder σ (suc e) l (suc (task σ e))
-  holder-acquire e l a q b z = record {
-    bound = omega arith;
-    holder = λ t u.
-        rw (holds-acquire e t l a q, z .holder t u, eqb·zero-suc t, or-false, eqb·suc-suc (task σ e) t);
-  }
-
-  -- A release by the holder leaves none.
-  pub holder-release : (e l : ℕ) → isAcquire σ e ≡ false → isRelease σ e ≡ true → object σ e ≡ l
-      → Holder σ e l (suc (task σ e)) → Holder σ (suc e) l 0
-  holder-release e l a r q z = record {
-    bound = omega arith;
-    holder = λ t u.
-        rw (holds-release e t l a r q, z .holder t u, eqb·suc-suc (task σ e) t, eqb·zero-suc t)
-        (decided (eqb (task σ e) t) (λ y. rw y) (λ y. rw y));
-  }
-
-  -- Some task holds the lock where there is a holder.
-  pub holder-any : (e l h : ℕ) → Holder σ e l h → any (λ t. holds σ e t l) (from 0 tasks) ≡ ltb 0 h
-  holder-any e l h z = T-ext _ _ there back
-    where
-      there : T (any (λ t. holds σ e t l) (from 0 tasks)) → T (ltb 0 h)
-      there t =
-          let (u, m, k) = any-iff (λ t. holds σ e t l) (from 0 tasks) .0 t in
-          let inside = from-iff 0 tasks u .0 m in
-          let same : h ≡ suc u = eqb→eq h (suc u) (rw (z .holder u (omega arith)) at k) in
-          lt→ltb 0 h (omega arith)
-
-      back : T (ltb 0 h) → T (any (λ t. holds σ e t l) (from 0 tasks))
-      back t = go h (z .bound) (z .holder) (ltb→lt 0 h t)
-        where
-          go : (h : ℕ) → h ≤ tasks → ((t : ℕ) → t < tasks → holds σ e t l ≡ eqb h (suc t)) → 0 < h
-              → T (any (λ t. holds σ e t l) (from 0 tasks))
-          go zero b f p = absurd (omega arith)
-          go (suc u) b f p =
-              any-iff (λ t. holds σ e t l) (from 0 tasks) .1
-              (u, from-iff 0 tasks u .1 (omega arith, omega arith), rw (f u (omega arith)) (eqb-refl (suc u)))
+      back : (h : ℕ) → Holder σ e l h d → 0 < d → T (any (λ t. holds σ e t l) (from 0 tasks))
+      back zero z p = absurd (omega (arith, eqb-true d 0 (sym (z .none))))
+      back (suc t) z p =
+          let b : t < tasks = omega (arith, z .bound) in
+          any-iff (λ t. holds σ e t l) (from 0 tasks) .1
+          (t, from-iff 0 tasks t .1 (omega arith, b), rw (holder-holds z t b) (eqb-refl (suc t)))
 
   -- The lock of an acquire is free where it has no holder but the event's own task.
-  pub holder-free : (e h : ℕ) → Holder σ e (object σ e) h → isFree σ e ≡ (eqb h 0 || eqb h (suc (task σ e)))
+  pub holder-free : {e h d : ℕ} → Holder σ e (object σ e) h d
+      → isFree σ e ≡ (eqb h 0 || eqb h (suc (task σ e)))
   unfolding isFree
-  holder-free e h z = T-ext _ _ (there h (z .bound) (z .holder)) back
+  holder-free {e} {h} {d} z = T-ext _ _ (there h z) back
     where
       test : ℕ → Bool
       test t = eqb t (task σ e) || not (holds σ e t (object σ e))
 
-      there : (h : ℕ) → h ≤ tasks → ((t : ℕ) → t < tasks → holds σ e t (object σ e) ≡ eqb h (suc t))
+      there : (h : ℕ) → Holder σ e (object σ e) h d
           → T (all test (from 0 tasks)) → T (eqb h 0 || eqb h (suc (task σ e)))
-      there zero b f t = tt
-      there (suc u) b f t =
-          let fine = all-iff test (from 0 tasks) .0 t u (from-iff 0 tasks u .1 (omega arith, omega arith)) in
-          let own : holds σ e u (object σ e) ≡ true = f u (omega arith) ∙ eq-eqb (suc u) (suc u) refl in
-          or-r (eqb (suc u) 0) _
-          (rw (eqb·suc-suc u (task σ e)) (or-elim (eqb u (task σ e)) (not (holds σ e u (object σ e)))
+      there zero z p = tt
+      there (suc t) z p =
+          let b : t < tasks = omega (arith, z .bound) in
+          let fine = all-iff test (from 0 tasks) .0 p t (from-iff 0 tasks t .1 (omega arith, b)) in
+          let own : holds σ e t (object σ e) ≡ true = holder-holds z t b ∙ eq-eqb (suc t) (suc t) refl in
+          or-r (eqb (suc t) 0) _
+          (rw (eqb·suc-suc t (task σ e)) (or-elim (eqb t (task σ e)) (not (holds σ e t (object σ e)))
           (λ y. y) (λ n. absurd (rw own at n)) fine))
 
       back : T (eqb h 0 || eqb h (suc (task σ e))) → T (all test (from 0 tasks))
-      back t = all-iff test (from 0 tasks) .1 (λ u m.
-          decided (eqb u (task σ e)) (λ y. rw y tt)
-          (λ n. rw (n, z .holder u (from-iff 0 tasks u .0 m .1), apart u n) tt))
+      back p = all-iff test (from 0 tasks) .1 (λ t m.
+          decided (eqb t (task σ e)) (λ y. rw y tt)
+          (λ n. rw (n, holder-holds z t (from-iff 0 tasks t .0 m .1), apart t n) tt))
         where
-          apart : (u : ℕ) → eqb u (task σ e) ≡ false → eqb h (suc u) ≡ false
-          apart u n =
-              let d = eqb-false u (task σ e) n in
+          apart : (t : ℕ) → eqb t (task σ e) ≡ false → eqb h (suc t) ≡ false
+          apart t n =
+              let d = eqb-false t (task σ e) n in
               or-elim (eqb h 0) (eqb h (suc (task σ e)))
-              (λ y. ne-eqb h (suc u) (omega (arith, eqb→eq h 0 y)))
-              (λ y. ne-eqb h (suc u) (omega (arith, eqb→eq h (suc (task σ e)) y))) t
+              (λ y. ne-eqb h (suc t) (omega (arith, eqb→eq h 0 y)))
+              (λ y. ne-eqb h (suc t) (omega (arith, eqb→eq h (suc (task σ e)) y))) p
 
-  -- ---- tables
+  -- ---- one event more
+
+  -- Before event 1 it has none.
+  pub holder-start : (l : ℕ) → Holder σ 1 l 0 0
+  holder-start l =
+      record { bound = omega arith; at = λ t b. rw (depth-start σ t l, eqb·zero-suc t); none = refl }
+
+  -- An event that changes no depth leaves it.
+  pub holder-keep : {e l h d : ℕ} → ((t : ℕ) → depth σ (suc e) t l ≡ depth σ e t l) → Holder σ e l h d
+      → Holder σ (suc e) l h d
+  holder-keep k z = record { bound = z .bound; at = λ t b. k t ∙ z .at t b; none = z .none }
+
+  own-is : {e l h d : ℕ} (t : ℕ) → t < tasks → T (eqb h 0 || eqb h (suc t)) → Holder σ e l h d
+      → depth σ e t l ≡ d
+  own-is {e} {l} {h} {d} t b f z =
+      or-elim (eqb h 0) (eqb h (suc t))
+      (λ y. let q = eqb→eq h 0 y in
+      let r = eqb-true d 0 (sym (z .none) ∙ is-true (eqb h 0) y) in
+      z .at t b ∙ rw (q, eqb·zero-suc t) (sym r))
+      (λ y. z .at t b ∙ rw (is-true (eqb h (suc t)) y)) f
+
+  other-is : {e l h d : ℕ} (u t : ℕ) → t < tasks → T (eqb h 0 || eqb h (suc u)) → u ≢ t → Holder σ e l h d
+      → depth σ e t l ≡ 0
+  other-is {e} {l} {h} {d} u t b f n z =
+      let differs : h ≢ suc t = or-elim (eqb h 0) (eqb h (suc u))
+      (λ y. omega (arith, eqb→eq h 0 y)) (λ y. omega (arith, eqb→eq h (suc u) y)) f in
+      z .at t b ∙ rw (ne-eqb h (suc t) differs)
+
+  -- The event's own depth is the lock's, where the lock has no other holder.
+  pub holder-own : {e h d : ℕ} → task σ e < tasks → T (eqb h 0 || eqb h (suc (task σ e)))
+      → Holder σ e (object σ e) h d → ownDepth σ e ≡ d
+  unfolding ownDepth
+  holder-own {e} b f z = own-is (task σ e) b f z
+
+  -- An acquire makes its task the holder, one deeper.
+  pub holder-enter : {e l h d : ℕ} → T (enters σ e) → object σ e ≡ l → task σ e < tasks
+      → T (eqb h 0 || eqb h (suc (task σ e))) → Holder σ e l h d → Holder σ (suc e) l (suc (task σ e)) (suc d)
+  holder-enter {e} {l} {h} {d} a q b f z = record {
+    bound = omega arith;
+    at = λ t k. ⊎-elim (same t k) (other t k) (equal? (task σ e) t);
+    none = rw (eqb·suc-zero (task σ e), eqb·suc-zero d);
+  }
+    where
+      same : (t : ℕ) → t < tasks → task σ e ≡ t
+          → depth σ (suc e) t l ≡ cond (eqb (suc (task σ e)) (suc t)) (suc d) 0
+      same t k p =
+          let own = own-is t k (rw p at f) z in
+          depth-enter σ e t l a p q ∙ rw (own, eqb·suc-suc (task σ e) t, eq-eqb (task σ e) t p)
+
+      other : (t : ℕ) → t < tasks → task σ e ≢ t
+          → depth σ (suc e) t l ≡ cond (eqb (suc (task σ e)) (suc t)) (suc d) 0
+      other t k n =
+          depth-other σ e t l n ∙ other-is (task σ e) t k f n z
+          ∙ rw (eqb·suc-suc (task σ e) t, ne-eqb (task σ e) t n)
+
+  left : {e l d : ℕ} → T (leaves σ e) → object σ e ≡ l → Holder σ e l (suc (task σ e)) d
+      → (t : ℕ) → t < tasks → depth σ (suc e) t l ≡ cond (eqb (suc (task σ e)) (suc t)) (d - 1) 0
+  left {e} {l} {d} a q z t k = ⊎-elim same other (equal? (task σ e) t)
+    where
+      same : task σ e ≡ t → depth σ (suc e) t l ≡ cond (eqb (suc (task σ e)) (suc t)) (d - 1) 0
+      same p =
+          depth-leave σ e t l a p q
+          ∙ rw (z .at t k, eqb·suc-suc (task σ e) t, eq-eqb (task σ e) t p)
+
+      other : task σ e ≢ t → depth σ (suc e) t l ≡ cond (eqb (suc (task σ e)) (suc t)) (d - 1) 0
+      other n =
+          depth-other σ e t l n ∙ rw (z .at t k, eqb·suc-suc (task σ e) t, ne-eqb (task σ e) t n)
+
+  -- A release from depth 1 leaves no holder,
+  pub holder-freed : {e l : ℕ} → T (leaves σ e) → object σ e ≡ l → Holder σ e l (suc (task σ e)) 1
+      → Holder σ (suc e) l 0 0
+  holder-freed {e} {l} a q z = record {
+    bound = omega arith;
+    at = λ t k. left a q z t k
+        ∙ rw (eqb·zero-suc t) (decided (eqb (suc (task σ e)) (suc t)) (λ y. rw y) (λ n. rw n));
+    none = refl;
+  }
+
+  -- and one from above leaves the holder, one less deep.
+  pub holder-lowered : {e l d : ℕ} → T (leaves σ e) → object σ e ≡ l → 1 < d → Holder σ e l (suc (task σ e)) d
+      → Holder σ (suc e) l (suc (task σ e)) (d - 1)
+  holder-lowered {e} {l} {d} a q b z = record {
+    bound = z .bound;
+    at = left a q z;
+    none = rw (eqb·suc-zero (task σ e)) (sym (ne-eqb (d - 1) 0 (omega arith)));
+  }
+
+  -- A depth is at most the number of earlier events.
+  pub holder-fits : {e l h d : ℕ} → Holder σ e l h d → d ≤ e - 1
+  holder-fits {e} {l} {h} {d} z = go h (z .bound) (z .at) (z .none)
+    where
+      go : (h : ℕ) → h ≤ tasks → ((t : ℕ) → t < tasks → depth σ e t l ≡ cond (eqb h (suc t)) d 0)
+          → eqb h 0 ≡ eqb d 0 → d ≤ e - 1
+      go zero b f q = let r = eqb-true d 0 (sym q) in omega arith
+      go (suc t) b f q =
+          let r : depth σ e t l ≡ d = f t (omega arith) ∙ rw (eq-eqb (suc t) (suc t) refl) in
+          omega (arith, depth-le σ e t l)
+
+  -- ---- tables of holders and depths
 
   -- Before event 1 no lock is held.
-  pub holders-start : Holders σ 1 (replicate locks 0)
+  pub holders-start : Holders σ 1 (replicate locks 0) (replicate locks 0)
   holders-start = record {
-    long = length-replicate {A = ℕ} locks 0;
+    holders-long = length-replicate {A = ℕ} locks 0;
+    depths-long = length-replicate {A = ℕ} locks 0;
     at = λ l h. rw (getD-replicate {A = ℕ} locks l 0 0 h) (holder-start l);
   }
 
-  -- The event's lock gets another holder.
-  pub holders-set : (e h : ℕ) (table : List ℕ) → Holders σ e table → object σ e < locks
-      → Holder σ (suc e) (object σ e) h → Holders σ (suc e) (set table (object σ e) h)
-  holders-set e h table z b n = record {
-    long = length-set table (object σ e) h ∙ z .long;
+  -- The event's lock gets another holder and depth.
+  pub holders-set : {e h d : ℕ} {holders depths : List ℕ} → Holders σ e holders depths → object σ e < locks
+      → Holder σ (suc e) (object σ e) h d
+      → Holders σ (suc e) (set holders (object σ e) h) (set depths (object σ e) d)
+  holders-set {e} {h} {d} {holders} {depths} z b n = record {
+    holders-long = length-set holders (object σ e) h ∙ z .holders-long;
+    depths-long = length-set depths (object σ e) d ∙ z .depths-long;
     at = λ l k. ⊎-elim (same l) (other l k) (equal? l (object σ e));
   }
     where
-      same : (l : ℕ) → l ≡ object σ e → Holder σ (suc e) l (getD (set table (object σ e) h) l 0)
-      same l q = rw (q, getD-set-same table (object σ e) h 0 (omega (arith, z .long))) n
+      same : (l : ℕ) → l ≡ object σ e
+          → Holder σ (suc e) l (getD (set holders (object σ e) h) l 0) (getD (set depths (object σ e) d) l 0)
+      same l q =
+          rw (
+            q,
+            getD-set-same holders (object σ e) h 0 (omega (arith, z .holders-long)),
+            getD-set-same depths (object σ e) d 0 (omega (arith, z .depths-long)),
+          ) n
 
-      other : (l : ℕ) → l < locks → l ≢ object σ e → Holder σ (suc e) l (getD (set table (object σ e) h) l 0)
-      other l k d =
-          rw (getD-set-other table (object σ e) l h 0 d)
-          (holder-keep e l (getD table l 0) (λ t. holds-apart e t l (λ q. d (sym q))) (z .at l k))
+      other : (l : ℕ) → l < locks → l ≢ object σ e
+          → Holder σ (suc e) l (getD (set holders (object σ e) h) l 0) (getD (set depths (object σ e) d) l 0)
+      other l k n =
+          rw (getD-set-other holders (object σ e) l h 0 n, getD-set-other depths (object σ e) l d 0 n)
+          (holder-keep (λ t. depth-apart σ e t l (λ q. n (sym q))) (z .at l k))
 
-  -- An event that is no outer acquire or release leaves them.
-  pub holders-access : (e : ℕ) (table : List ℕ) → isAcquire σ e ≡ false → isRelease σ e ≡ false
-      → Holders σ e table → Holders σ (suc e) table
-  holders-access e table a r z = record {
-    long = z .long;
-    at = λ l h. holder-keep e l (getD table l 0) (λ t. holds-access e t l a r) (z .at l h);
+  -- The event's lock keeps its holder, and gets another depth.
+  pub holders-depth : {e d : ℕ} {holders depths : List ℕ} → Holders σ e holders depths → object σ e < locks
+      → Holder σ (suc e) (object σ e) (getD holders (object σ e) 0) d
+      → Holders σ (suc e) holders (set depths (object σ e) d)
+  holders-depth {e} {d} {holders} {depths} z b n = record {
+    holders-long = z .holders-long;
+    depths-long = length-set depths (object σ e) d ∙ z .depths-long;
+    at = λ l k. ⊎-elim (same l) (other l k) (equal? l (object σ e));
+  }
+    where
+      same : (l : ℕ) → l ≡ object σ e
+          → Holder σ (suc e) l (getD holders l 0) (getD (set depths (object σ e) d) l 0)
+      same l q = rw (q, getD-set-same depths (object σ e) d 0 (omega (arith, z .depths-long))) n
+
+      other : (l : ℕ) → l < locks → l ≢ object σ e
+          → Holder σ (suc e) l (getD holders l 0) (getD (set depths (object σ e) d) l 0)
+      other l k n =
+          rw (getD-set-other depths (object σ e) l d 0 n)
+          (holder-keep (λ t. depth-apart σ e t l (λ q. n (sym q))) (z .at l k))
+
+  -- A read or a write leaves them.
+  pub holders-access : {e : ℕ} {holders depths : List ℕ} → enters σ e ≡ false → leaves σ e ≡ false
+      → Holders σ e holders depths → Holders σ (suc e) holders depths
+  holders-access {e} a r z = record {
+    holders-long = z .holders-long;
+    depths-long = z .depths-long;
+    at = λ l h. holder-keep (λ t. depth-access σ e t l a r) (z .at l h);
   }

@@ -12,16 +12,15 @@ use lib.ListN.{getD, set, replicate, length-set, length-replicate, getD-replicat
 use lib.Seq.{getD-set-same, getD-set-other}
 use borrow.Author.Tests.{eq-eqb, ne-eqb}
 use Rattle.model.specs.Lists.{hasBit}
-use Rattle.model.specs.Trace.{Trace, tasks, locks, task, object, enters, isAcquire, isRelease}
+use Rattle.model.specs.Trace.{Trace, tasks, locks, task, object, isAcquire, isRelease}
 use Rattle.model.specs.Relations.{holds, held}
 use Rattle.laws.specs.Walked.{Locksets}
-use Rattle.laws.proofs.Tests.{equal?, at-most?, is-true}
+use Rattle.laws.proofs.Tests.{equal?, at-most?}
 use Rattle.laws.proofs.Bits.{hasBit-none, hasBit-bit, hasBit-ext, hasBit-beyond, hasBit-xor}
 use Rattle.laws.proofs.Bits.{hasBit-shift, shift-one}
 use Rattle.laws.proofs.Relations.{held-lt, held-bit}
-use Rattle.laws.proofs.Depth.{isAcquire-iff}
-use Rattle.laws.proofs.Holders.{holds-start, holds-apart, holds-access, holds-other, holds-enter}
-use Rattle.laws.proofs.Holders.{holds-release}
+use Rattle.laws.proofs.Holds.{holds-start, holds-apart, holds-access, holds-other, holds-acquire}
+use Rattle.laws.proofs.Holds.{holds-release}
 
 module _ (σ : Trace) where
   -- Before event 1 no task holds any.
@@ -72,12 +71,12 @@ module _ (σ : Trace) where
       other t l h k d =
           rw (getD-set-other table (task σ e) t m 0 d, holds-other σ e t l (λ q. d (sym q))) (z .at t l h k)
 
-  -- An acquire sets its lock's bit; an inner one finds it set.
-  pub locksets-enter : (e : ℕ) (table : List ℕ) → Locksets σ e table → task σ e < tasks
-      → enters σ e ≡ true → object σ e < locks
+  -- An outer acquire sets its lock's bit.
+  pub locksets-acquire : (e : ℕ) (table : List ℕ) → Locksets σ e table → task σ e < tasks
+      → isAcquire σ e ≡ true → object σ e < locks
       → Locksets σ (suc e) (set table (task σ e) (bitOr (getD table (task σ e) 0)
       (1 * 2 ^ object σ e % 2 ^ 64)))
-  locksets-enter e table z b a o =
+  locksets-acquire e table z b a o =
       locksets-set e (bitOr m (1 * 2 ^ l % 2 ^ 64)) table z b
       (rw (shift-one 64 l o) (or-lt 64 m (2 ^ l) (z .fits (task σ e) b) (pow-lt o))) bits
     where
@@ -94,19 +93,11 @@ module _ (σ : Trace) where
           (λ (q : l ≡ j). rw (
             eq-eqb l j q,
             or-true,
-            holds-enter σ e (task σ e) j a q,
+            holds-acquire σ e (task σ e) j a q,
             eq-eqb (task σ e)
                 (task σ e) refl,
           ))
           (λ (d : l ≢ j). rw (ne-eqb l j d, or-false, holds-apart σ e (task σ e) j d)) (equal? l j))
-
-  -- So does an outer one.
-  pub locksets-acquire : (e : ℕ) (table : List ℕ) → Locksets σ e table → task σ e < tasks
-      → isAcquire σ e ≡ true → object σ e < locks
-      → Locksets σ (suc e) (set table (task σ e) (bitOr (getD table (task σ e) 0)
-      (1 * 2 ^ object σ e % 2 ^ 64)))
-  locksets-acquire e table z b a o =
-      locksets-enter e table z b (is-true (enters σ e) (isAcquire-iff σ e .0 (rw a tt) .0)) o
 
   -- An outer release clears its lock's bit, which is set.
   pub locksets-release : (e : ℕ) (table : List ℕ) → Locksets σ e table → task σ e < tasks

@@ -12,7 +12,7 @@ use borrow.Author.Tests.{eq-eqb, ne-eqb}
 use Rattle.model.specs.Lists.{any, filter, from}
 use Rattle.model.specs.Trace.{Trace, tasks, task, object, enters, leaves, operates, depth}
 use Rattle.model.specs.Relations.{holds}
-use Rattle.laws.specs.Walked.{Depth}
+use Rattle.laws.specs.Walked.{Holder}
 use Rattle.laws.proofs.Tests.{decided, equal?, at-most?, is-true, is-false}
 use Rattle.laws.proofs.Lists.{any-iff, from-iff}
 use Rattle.laws.proofs.Filters.{filter-next}
@@ -56,16 +56,16 @@ module _ (σ : Trace) (ok : WellFormed σ) where
           (holds-iff σ b t l .1 (s .within b i (omega (arith, r .before))))
 
   -- So the record kept for each lock, holder and depth, says the depth of every task.
-  pub depth-record : (e l : ℕ) → (h : ℕ) × (d : ℕ) × Depth σ e l h d
-  depth-record e l =
+  pub holder-record : (e l : ℕ) → (h : ℕ) × (d : ℕ) × Holder σ e l h d
+  holder-record e l =
       decided (any (λ t. holds σ e t l) (from 0 tasks)) some none
     where
-      some : any (λ t. holds σ e t l) (from 0 tasks) ≡ true → (h : ℕ) × (d : ℕ) × Depth σ e l h d
+      some : any (λ t. holds σ e t l) (from 0 tasks) ≡ true → (h : ℕ) × (d : ℕ) × Holder σ e l h d
       some y =
           let (t, m, h) = any-iff (λ t. holds σ e t l) (from 0 tasks) .0 (rw y tt) in
           (suc t, depth σ e t l, held t h)
         where
-          held : (t : ℕ) → T (holds σ e t l) → Depth σ e l (suc t) (depth σ e t l)
+          held : (t : ℕ) → T (holds σ e t l) → Holder σ e l (suc t) (depth σ e t l)
           held t h = record {
             bound = holds-task e t l h;
             at = λ u b. ⊎-elim
@@ -82,7 +82,7 @@ module _ (σ : Trace) (ok : WellFormed σ) where
                   (λ d. absurd (n (holder-sole e t u l h (holds-iff σ e u l .1 (omega arith)))))
                   (equal? (depth σ e u l) 0)
 
-      none : any (λ t. holds σ e t l) (from 0 tasks) ≡ false → (h : ℕ) × (d : ℕ) × Depth σ e l h d
+      none : any (λ t. holds σ e t l) (from 0 tasks) ≡ false → (h : ℕ) × (d : ℕ) × Holder σ e l h d
       none n = (0, 0, record { bound = omega arith; at = free; none = refl })
         where
           free : (t : ℕ) → t < tasks → depth σ e t l ≡ cond (eqb 0 (suc t)) 0 0

@@ -1,6 +1,6 @@
 -- What the tables of a walk hold right before event e, in terms of the relations: the holder and the depth of
 -- a lock, the locks of each task, the latest event of each kind, and the matches. How one event changes them
--- is in proofs/LatestEvents, Holders, Depths, Locksets and Matches.
+-- is in proofs/LatestEvents, Holders, LockDepths, Locksets and Matches.
 use Prim.Native.Nat.{ℕ, suc, _-_, _^_, _≤_, _<_}
 use mathlib.Core.Path.{_≡_}
 use mathlib.Core.Bool.{Bool, cond, _&&_}
@@ -10,33 +10,25 @@ use lib.ListN.{length, getD}
 use Rattle.model.specs.Lists.{lastBefore, firstFrom, hasBit}
 use Rattle.model.specs.Trace.{Trace, tasks, locks, sameTask, sameObject, depth, isAcquire, isRelease}
 use Rattle.model.specs.Relations.{acquireOf, holds}
+use Rattle.laws.specs.EventKinds.{isInner}
 
--- The holder of lock l is task h - 1, or no task where h is 0.
-pub record Holder (σ : Trace) (e l h : ℕ) : Type 0 where
-  pub bound : h ≤ tasks
-  pub holder : (t : ℕ) → t < tasks → holds σ e t l ≡ eqb h (suc t)
-
--- For each lock its holder.
-pub record Holders (σ : Trace) (e : ℕ) (table : List ℕ) : Type 0 where
-  pub long : length table ≡ locks
-  pub at : (l : ℕ) → l < locks → Holder σ e l (getD table l 0)
-
--- Lock l has task h - 1 at depth d as its holder; h and d are 0 where it has none.
-pub record Depth (σ : Trace) (e l h d : ℕ) : Type 0 where
+-- Lock l has task h - 1 at depth d as its holder, or none where h and d are 0 (02: the record kept for each
+-- lock is holder and depth).
+pub record Holder (σ : Trace) (e l h d : ℕ) : Type 0 where
   pub bound : h ≤ tasks
   pub at : (t : ℕ) → t < tasks → depth σ e t l ≡ cond (eqb h (suc t)) d 0
   pub none : eqb h 0 ≡ eqb d 0
 
--- For each lock its holder and depth (02: the record kept for each lock).
-pub record Depths (σ : Trace) (e : ℕ) (holders depths : List ℕ) : Type 0 where
+-- For each lock its holder and depth.
+pub record Holders (σ : Trace) (e : ℕ) (holders depths : List ℕ) : Type 0 where
   pub holders-long : length holders ≡ locks
   pub depths-long : length depths ≡ locks
-  pub at : (l : ℕ) → l < locks → Depth σ e l (getD holders l 0) (getD depths l 0)
+  pub at : (l : ℕ) → l < locks → Holder σ e l (getD holders l 0) (getD depths l 0)
 
--- Lock l has a holder at depth d, whichever task it is; d is 0 where it has none.
+-- Lock l has a holder at depth d, whichever task that is, or none where d is 0.
 pub record LockDepth (σ : Trace) (e l d : ℕ) : Type 0 where
   pub holder : ℕ
-  pub at : Depth σ e l holder d
+  pub at : Holder σ e l holder d
 
 -- For each lock its depth.
 pub record LockDepths (σ : Trace) (e : ℕ) (table : List ℕ) : Type 0 where
@@ -64,6 +56,7 @@ matchingBefore σ e f =
     (firstFrom (suc f) (e - suc f) (λ g. isRelease σ g && sameObject σ f g && sameTask σ f g))
     (cond (isRelease σ f) (acquireOf σ f) 0)
 
--- For each event before e its match, as far as these events show it.
+-- For each event before e its match, as far as these events show it; an inner event has its own number, which
+-- is no match.
 pub record Matches (σ : Trace) (e : ℕ) (table : List ℕ) : Type 0 where
-  pub at : (f : ℕ) → 1 ≤ f → f < e → getD table f 0 ≡ matchingBefore σ e f
+  pub at : (f : ℕ) → 1 ≤ f → f < e → getD table f 0 ≡ cond (isInner σ f) f (matchingBefore σ e f)

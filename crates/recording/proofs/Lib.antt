@@ -1,2 +1,3 @@
 -- Laws of the check's walk; each function's proof is in a folder of its own.
+pub mod Locks
 pub mod Laws

@@ -6,11 +6,11 @@ use mathlib.Core.List.{List}
 use lib.ListN.{length}
 use Rattle.model.specs.Trace.{Trace, variables, object, isWrite}
 use Rattle.model.specs.WellFormed.{fault}
-use Rattle.laws.specs.Walked.{Depths, LatestEvents}
+use Rattle.laws.specs.Walked.{Holders, LatestEvents}
 
 -- The check has come to event e.
 pub record Asked (σ : Trace) (e : ℕ) (holders depths writes : List ℕ) : Type 0 where
   pub faultless : (f : ℕ) → 1 ≤ f → f < e → fault σ f ≡ 0
-  pub holder : Depths σ e holders depths
+  pub holder : Holders σ e holders depths
   pub long : length writes ≡ variables
   pub write : LatestEvents (isWrite σ) (object σ) e writes

@@ -2,14 +2,18 @@
 // `records` is the part of a recording after its header of two bytes, wherever it stands.
 ghost use Prim.Native.Nat.{_+_, _*_, _-_, _<_, _≤_};
 ghost use mathlib.Core.Path.{_≡_};
+ghost use mathlib.Core.Bool.{cond};
+ghost use lib.Dec.{T};
 ghost use lib.ListN.{length, getD};
 ghost use lib.Seq.{sets};
 ghost use Rattle.model.specs.Bytes.{numbers, twoBytes};
-ghost use Rattle.model.specs.Trace.{tasks, variables, at, task, object};
+ghost use Rattle.model.specs.Trace.{tasks, locks, variables, at, task, object, enters, leaves};
 ghost use Rattle.model.specs.Recording.{decodeAll, eventCount};
-ghost use Rattle.model.specs.WellFormed.{fault};
+ghost use Rattle.model.specs.Relations.{holds};
+ghost use Rattle.model.specs.WellFormed.{isFree, fault};
 ghost use Rattle.model.specs.Calls.Check.{checkEvents, check};
 ghost use Rattle.laws.specs.Sizes.{recordsLength, tableLength};
+ghost use Rattle.laws.specs.Walked.{Holders};
 ghost use Rattle.recording.specs.Asked.{Asked};
 use model::Outcome;
 
@@ -55,9 +59,55 @@ pub fn object(records: &[u8], e: usize) -> u16
     (((records[at] & 3) as u16) << 8) | (records[at + 1] as u16)
 }
 
-// Puts questions 4 to 7 to event e, with the holder of each lock (its task plus 1, or 0), how deep it is in it,
-// and the latest write of each variable: the number of the first "no", or 0, and then the tables stand before
-// the next event. A depth is below e, so it fits.
+// Puts question 5 to acquire e, with the holder of each lock (its task plus 1, or 0) and how deep it is in it:
+// 5, or 0, and then its task is the holder, one deeper. A depth is below e, so it fits.
+fn enter(records: &[u8], e: usize, holders: &mut [u8], depths: &mut [u16]) -> u64
+    requires { ⌜ (1 ≤ e) × (2 * e ≤ length (now records)) × (e < tableLength)
+        × T (enters (decodeAll (now records)) e) × (object (decodeAll (now records)) e < locks)
+        × Holders (decodeAll (now records)) e (now holders) (now depths) ⌝ }
+    ensures { λ r. ⌜ (r ≡ cond (isFree (decodeAll (now (records .entry))) e) 0 5)
+        × (r ≡ 0 → Holders (decodeAll (now (records .entry))) (e + 1) (now (holders .exit))
+        (now (depths .exit))) ⌝ }
+{
+    let own = task(records, e) + 1;
+    let l = object(records, e) as usize;
+    if holders[l] == own {
+        depths[l] = depths[l] + 1;
+        return 0;
+    }
+    if holders[l] != 0 {
+        return 5;
+    }
+    holders[l] = own;
+    depths[l] = 1;
+    0
+}
+
+// Puts question 6 to release e, with the same tables: 6, or 0, and then its task is one less deep, and at depth
+// 0 the holder no more.
+fn leave(records: &[u8], e: usize, holders: &mut [u8], depths: &mut [u16]) -> u64
+    requires { ⌜ (1 ≤ e) × (2 * e ≤ length (now records))
+        × T (leaves (decodeAll (now records)) e) × (object (decodeAll (now records)) e < locks)
+        × Holders (decodeAll (now records)) e (now holders) (now depths) ⌝ }
+    ensures { λ r. ⌜ (r ≡ cond (holds (decodeAll (now (records .entry))) e
+        (task (decodeAll (now (records .entry))) e) (object (decodeAll (now (records .entry))) e)) 0 6)
+        × (r ≡ 0 → Holders (decodeAll (now (records .entry))) (e + 1) (now (holders .exit))
+        (now (depths .exit))) ⌝ }
+{
+    let l = object(records, e) as usize;
+    if holders[l] != task(records, e) + 1 {
+        return 6;
+    }
+    let d = depths[l] - 1;
+    depths[l] = d;
+    if d == 0 {
+        holders[l] = 0;
+    }
+    0
+}
+
+// Puts questions 4 to 7 to event e, with the holder and the depth of each lock and the latest write of each
+// variable: the number of the first "no", or 0, and then the tables stand before the next event.
 fn ask(records: &[u8], e: usize, holders: &mut [u8], depths: &mut [u16], writes: &mut [u16]) -> u64
     requires { ⌜ (1 ≤ e) × (2 * e ≤ length (now records)) × (e < tableLength)
         × Asked (decodeAll (now records)) e (now holders) (now depths) (now writes) ⌝ }
@@ -66,7 +116,6 @@ fn ask(records: &[u8], e: usize, holders: &mut [u8], depths: &mut [u16], writes:
         (now (depths .exit)) (now (writes .exit))) ⌝ }
 {
     let op = operation(records, e);
-    let task = task(records, e);
     let at = object(records, e) as usize;
     if op == 0 {
         if writes[at] == 0 {
@@ -82,27 +131,9 @@ fn ask(records: &[u8], e: usize, holders: &mut [u8], depths: &mut [u16], writes:
         return 4;
     }
     if op == 2 {
-        if holders[at] == 0 {
-            holders[at] = task + 1;
-            depths[at] = 1;
-            return 0;
-        }
-        if holders[at] != task + 1 {
-            return 5;
-        }
-        depths[at] = depths[at] + 1;
-        return 0;
+        return enter(records, e, holders, depths);
     }
-    if holders[at] != task + 1 {
-        return 6;
-    }
-    if depths[at] == 1 {
-        holders[at] = 0;
-        depths[at] = 0;
-        return 0;
-    }
-    depths[at] = depths[at] - 1;
-    0
+    leave(records, e, holders, depths)
 }
 
 // Puts questions 4 to 7 event by event: the earliest event with a "no" decides.

@@ -16,19 +16,19 @@ use Rattle.model.specs.Trace.{isRelease}
 use Rattle.model.specs.Recording.{decodeAll}
 use Rattle.model.specs.Relations.{predecessor, writer, held}
 use Rattle.model.specs.Calls.Check.{checkEvents}
-use Rattle.laws.specs.Walked.{Filled, LatestEvents, LockDepths, Locksets}
+use Rattle.laws.specs.Walked.{Filled, LatestEvents, LockDepths, Locksets, Matches}
 use Rattle.laws.proofs.Relations.{writer-none}
 use Rattle.laws.proofs.Tests.{or-l, or-r, is-true, equal?}
 use Rattle.laws.proofs.Trace.{record-event}
 use Rattle.laws.proofs.LatestEvents.{latest-set, latest-keep, latest-writer, latest-predecessor, filled-set}
 use Rattle.laws.proofs.Locksets.{locksets-held, locksets-acquire, locksets-release, locksets-access}
 use Rattle.laws.proofs.Faults.{isRead-op, isWrite-op, enters-op, leaves-op}
-use Rattle.laws.specs.EventKinds.{innerKind, kind, Marks}
+use Rattle.laws.specs.EventKinds.{innerKind, kind}
 use Rattle.laws.proofs.EventKinds.{isAcquire-kind, isRelease-kind, isInner-kind, kind-access, kind-enter, kind-leave}
 use Rattle.laws.proofs.LockDepths.{lockDepth-enter, lockDepth-leave, lockDepth-fits, lockDepths-set, lockDepths-access}
 use Rattle.laws.proofs.WellFormed.{WellFormed, operation-lt, lock-lt, release-held}
 use Rattle.laws.proofs.OpenAcquires.{opened-acquire}
-use Rattle.laws.proofs.Marks.{marks-keep, marks-release}
+use Rattle.laws.proofs.Matches.{matches-keep, matches-release}
 use Rattle.laws.proofs.Questions.{events-sound}
 
 -- ---- the predecessor
@@ -248,27 +248,27 @@ module _ (b : List ℕ) (accepted : checkEvents (decodeAll b) .refusal ≡ 0) (e
         (opened-acquire (decodeAll b) sound e event (rw (release a) tt) .1)
 
     -- A release and that acquire are each other's match.
-    pub release-matched : op ≡ 3 → (table : List ℕ) → Marks (decodeAll b) e table → e < length table
-        → Marks (decodeAll b) (e + 1) (set (set table (getD acquires l 0) e) e (getD acquires l 0))
+    pub release-matched : op ≡ 3 → (table : List ℕ) → Matches (decodeAll b) e table → e < length table
+        → Matches (decodeAll b) (e + 1) (set (set table (getD acquires l 0) e) e (getD acquires l 0))
     release-matched a table m k =
         rw (add-one e)
-        (marks-release (decodeAll b) sound e table m event (no-acquire (omega arith)) (rw (release a) tt) k
+        (matches-release (decodeAll b) sound e table m event (no-acquire (omega arith)) (rw (release a) tt) k
         (getD acquires l 0)
         (rw (is-object .1) (z .at (object (decodeAll b) e) (omega (arith, lock-bound (omega arith) (omega arith))))))
 
     -- An inner one is marked.
-    pub inner-marked : op ≡ innerKind → (table : List ℕ) → Marks (decodeAll b) e table → e < length table
-        → Marks (decodeAll b) (e + 1) (set table e e)
+    pub inner-marked : op ≡ innerKind → (table : List ℕ) → Matches (decodeAll b) e table → e < length table
+        → Matches (decodeAll b) (e + 1) (set table e e)
     inner-marked d table m k =
         let inner = isInner-kind (decodeAll b) e (is-op .1) (omega (arith, is-op .0)) ∙ eq-eqb op innerKind d in
-        rw (add-one e) (rw inner at (marks-keep (decodeAll b) e table m (no-release (omega arith)) k))
+        rw (add-one e) (rw inner at (matches-keep (decodeAll b) e table m (no-release (omega arith)) k))
 
     -- Another event has no match yet.
-    pub no-release-matched : op ≢ 3 → op ≢ innerKind → (table : List ℕ) → Marks (decodeAll b) e table
-        → e < length table → Marks (decodeAll b) (e + 1) (set table e 0)
+    pub no-release-matched : op ≢ 3 → op ≢ innerKind → (table : List ℕ) → Matches (decodeAll b) e table
+        → e < length table → Matches (decodeAll b) (e + 1) (set table e 0)
     no-release-matched d i table m k =
         let outer = isInner-kind (decodeAll b) e (is-op .1) (omega (arith, is-op .0)) ∙ ne-eqb op innerKind i in
-        rw (add-one e) (rw outer at (marks-keep (decodeAll b) e table m (no-release d) k))
+        rw (add-one e) (rw outer at (matches-keep (decodeAll b) e table m (no-release d) k))
 
     -- An acquire is the latest of its lock.
     pub acquire-latest : op ≡ 2

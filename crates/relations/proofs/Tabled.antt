@@ -17,7 +17,8 @@ use Rattle.laws.proofs.Trace.{decodeAll-length}
 use Rattle.laws.proofs.LatestEvents.{latest-start, filled-start}
 use Rattle.laws.proofs.Locksets.{locksets-start}
 use Rattle.laws.proofs.Relations.{predecessor-below, writer-below, held-lt}
-use Rattle.laws.proofs.Marks.{marked-match, marked-le, marks-start, marks-end}
+use Rattle.laws.proofs.Marks.{marked-match, marked-le}
+use Rattle.laws.proofs.Matches.{matches-start, matches-end}
 use Rattle.laws.proofs.LockDepths.{lockDepths-start}
 use Rattle.laws.specs.EventKinds.{marked}
 use Rattle.relations.specs.Tables.{operation, Tables, Long, Noted}
@@ -40,7 +41,7 @@ noted-start σ operations owners objects holding predecessors writers matches lo
   held-filled = filled-start (held σ) holding;
   predecessor-filled = filled-start (predecessor σ) predecessors;
   writer-filled = filled-start (writer σ) writers;
-  matching-filled = marks-start σ matches;
+  matching-filled = matches-start σ matches;
   latest-event = latest-start (λ f. true) (task σ) tasks;
   latest-write = latest-start (isWrite σ) (object σ) variables;
   depth = lockDepths-start σ;
@@ -64,7 +65,7 @@ noted-end b e {matches = matches} z h k = record {
   held-at = λ f i j. z .held-filled .at f i (omega (arith, decodeAll-length b));
   predecessor-at = λ f i j. z .predecessor-filled .at f i (omega (arith, decodeAll-length b));
   writer-at = λ f i j. z .writer-filled .at f i (omega (arith, decodeAll-length b));
-  matching-at = marks-end (decodeAll b) matches (rw last at (z .matching-filled));
+  matching-at = matches-end (decodeAll b) matches (rw last at (z .matching-filled));
 }
   where
     last : e ≡ suc (length (decodeAll b))

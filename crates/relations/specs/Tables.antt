@@ -8,8 +8,8 @@ use lib.ListN.{length, getD}
 use Rattle.model.specs.Trace.{Trace, tasks, locks, variables, at, task, object, isWrite, isAcquire}
 use Rattle.model.specs.Relations.{predecessor, writer, held}
 use Rattle.laws.specs.Sizes.{tableLength}
-use Rattle.laws.specs.Walked.{Filled, LatestEvents, LockDepths, Locksets}
-use Rattle.laws.specs.EventKinds.{marked, Marks}
+use Rattle.laws.specs.Walked.{Filled, LatestEvents, LockDepths, Locksets, Matches}
+use Rattle.laws.specs.EventKinds.{marked}
 
 -- The operation of an event, as a relation.
 abbrev pub operation : Trace → ℕ → ℕ
@@ -55,7 +55,7 @@ pub record Noted (σ : Trace) (e : ℕ) (operations tasks objects holding predec
   pub held-filled : Filled (held σ) e holding
   pub predecessor-filled : Filled (predecessor σ) e predecessors
   pub writer-filled : Filled (writer σ) e writers
-  pub matching-filled : Marks σ e matches
+  pub matching-filled : Matches σ e matches
   pub latest-event : LatestEvents (λ f. true) (task σ) e latest
   pub latest-write : LatestEvents (isWrite σ) (object σ) e writes
   pub depth : LockDepths σ e depths

@@ -12,8 +12,8 @@ ghost use Rattle.model.specs.Calls.Check.{checkEvents};
 ghost use Rattle.model.specs.Calls.Relations.{relations};
 ghost use Rattle.laws.specs.Sizes.{recordsLength, tableLength};
 ghost use Rattle.laws.specs.Answered.{refusedRelations, eventRelations};
-ghost use Rattle.laws.specs.Walked.{Filled, LatestEvents, LockDepths, Locksets};
-ghost use Rattle.laws.specs.EventKinds.{kind, Marks};
+ghost use Rattle.laws.specs.Walked.{Filled, LatestEvents, LockDepths, Locksets, Matches};
+ghost use Rattle.laws.specs.EventKinds.{kind};
 ghost use Rattle.relations.specs.Tables.{operation, Tables, Noted};
 
 // Notes what event e's own record says.
@@ -139,11 +139,11 @@ fn note_match(records: &[u8], e: usize, k: u8, matches: &mut [u16], acquires: &m
         × (at (decodeAll (now records)) e .op < 4) × (k ≡ kind (decodeAll (now records)) e)
         × (length (now matches) ≡ tableLength) × (length (now acquires) ≡ locks)
         × (checkEvents (decodeAll (now records)) .refusal ≡ 0)
-        × Marks (decodeAll (now records)) e (now matches)
+        × Matches (decodeAll (now records)) e (now matches)
         × LatestEvents (isAcquire (decodeAll (now records))) (object (decodeAll (now records))) e
         (now acquires) ⌝ }
     ensures { λ r. ⌜ (length (now (acquires .exit)) ≡ locks)
-        × Marks (decodeAll (now (records .entry))) (e + 1) (now (matches .exit))
+        × Matches (decodeAll (now (records .entry))) (e + 1) (now (matches .exit))
         × LatestEvents (isAcquire (decodeAll (now (records .entry))))
         (object (decodeAll (now (records .entry))))
         (e + 1) (now (acquires .exit)) ⌝ }
@@ -181,14 +181,14 @@ fn note_locks(
         × (length (now holding) ≡ tableLength) × (length (now matches) ≡ tableLength)
         × (length (now acquires) ≡ locks)
         × Filled (held (decodeAll (now records))) e (now holding)
-        × Marks (decodeAll (now records)) e (now matches)
+        × Matches (decodeAll (now records)) e (now matches)
         × LockDepths (decodeAll (now records)) e (now depths)
         × Locksets (decodeAll (now records)) e (now locksets)
         × LatestEvents (isAcquire (decodeAll (now records))) (object (decodeAll (now records))) e
         (now acquires) ⌝ }
     ensures { λ r. ⌜ (length (now (acquires .exit)) ≡ locks)
         × Filled (held (decodeAll (now (records .entry)))) (e + 1) (now (holding .exit))
-        × Marks (decodeAll (now (records .entry))) (e + 1) (now (matches .exit))
+        × Matches (decodeAll (now (records .entry))) (e + 1) (now (matches .exit))
         × LockDepths (decodeAll (now (records .entry))) (e + 1) (now (depths .exit))
         × Locksets (decodeAll (now (records .entry))) (e + 1) (now (locksets .exit))
         × LatestEvents (isAcquire (decodeAll (now (records .entry))))

@@ -1,34 +1,42 @@
 -- `recording::ask` meets its contract: each return cites the law of its case. Assumes nothing.
+use Prim.Native.Nat.{_<_}
+use mathlib.Core.Path.{_≡_}
+use native.Mathlib.Omega.{arith}
 use borrow.Author.Needs.{needs}
+use Rattle.model.specs.Trace.{locks, object}
 use Rattle.model.specs.Recording.{decodeAll}
-use Rattle.recording.proofs.Laws.{Coming, read-refused, read-passed, written, no-lock, depth-below}
-use Rattle.recording.proofs.Laws.{acquire-refused, acquire-first, acquire-again, release-refused}
-use Rattle.recording.proofs.Laws.{release-deep, release-last, release-inner}
+use Rattle.recording.proofs.Laws.{Coming, read-refused, read-passed, written, no-lock, entering}
+use Rattle.recording.proofs.Laws.{acquired, leaving, released}
 use Rattle.recording.proofs.ask.Statement.{statement}
 use Rattle.recording.proofs.ask.Tie as tie
 
--- The event as it was unpacked.
+-- The entry, from where the event is unpacked.
+abbrev start : tie.After-object → tie.Start
+start c = c .before .before .before .before .before .before
+
+-- The event's operation and object.
 unpacked : (c : tie.After-object)
-    → Coming (decodeAll (c .before .before .before .before .before .before .before .args .records .now))
-    (c .before .before .before .before .before .before .before .args .e) (c .before .before .operation .result)
-    (c .before .task .result) (c .object .result)
-    (c .before .before .before .before .before .before .before .args .holders .now)
-    (c .before .before .before .before .before .before .before .args .depths .now)
-    (c .before .before .before .before .before .before .before .args .writes .now)
+    → Coming (decodeAll (start c .args .records .now)) (start c .args .e) (c .before .operation .result)
+    (c .object .result) (start c .args .holders .now) (start c .args .depths .now) (start c .args .writes .now)
 unpacked c = record {
-  unpacked = record {
-    op-is = c .before .before .operation .ensures;
-    task-is = c .before .task .ensures;
-    object-is = c .object .ensures;
-  };
-  asked = c .before .before .before .before .before .before .before .pre .3;
+  op-is = c .before .operation .ensures;
+  object-is = c .object .ensures;
+  asked = start c .pre .3;
 }
+
+-- The last of four operations.
+release : (c : tie.Else5) → c .before .before .before .before .before .operation .result ≡ 3
+release c =
+    omega (
+      arith,
+      c .before .before .before .before .before .operation .ensures,
+      c .before .before .before .if1 .left,
+      c .before .before .if3 .left,
+      c .if5 .left,
+    )
 
 operation-requires : tie.Need-operation-requires
 operation-requires c κs = search needs
-
-task-requires : tie.Need-task-requires
-task-requires c κs = search needs
 
 object-requires : tie.Need-object-requires
 object-requires c κs = search needs
@@ -68,22 +76,16 @@ returns-3 c =
 
 returns-4 : tie.Need-returns-4
 returns-4 c =
-    no-lock (unpacked (c .before .before .before)) (c .before .before .if1 .left) (c .before .if3 .left) (c .if4 .taken)
+    no-lock (unpacked (c .before .before .before)) (c .before .before .if1 .left) (c .before .if3 .left)
+    (c .if4 .taken)
 
-slice-read-if6 : tie.Need-slice-read-if6
-slice-read-if6 c = search needs
-
-add-holders : tie.Need-add-holders
-add-holders c = search needs
-
-slice-write-holders : tie.Need-slice-write-holders
-slice-write-holders c = search needs
-
-mul-depths : tie.Need-mul-depths
-mul-depths c = search needs
-
-slice-write-depths : tie.Need-slice-write-depths
-slice-write-depths c = search needs
+enter-requires : tie.Need-enter-requires
+enter-requires c κs =
+    let u = c .before .before .before .before .before .before in
+    let s = start u in
+    let small : object (decodeAll (s .args .records .now)) (s .args .e) < locks =
+    omega (arith, c .before .before .before .if4 .left, u .object .ensures) in
+    (s .pre .0, s .pre .1, s .pre .2, entering (unpacked u) (c .before .before .if5 .taken), small, s .pre .3 .holder)
 
 same-length-2 : tie.Need-same-length-2
 same-length-2 c = search needs
@@ -93,112 +95,33 @@ same-length-3 c = search needs
 
 returns-5 : tie.Need-returns-5
 returns-5 c =
-    acquire-first (unpacked (c .before .before .before .before .before .before))
-    (c .before .before .if5 .taken) (c .before .before .before .if4 .left) (c .if6 .taken)
+    let k = c .before .before .before .before .before .before .before in
+    acquired (unpacked (k .before .before .before .before)) (k .if5 .taken) (k .before .if4 .left) _ _ _ (c .before .before .before .before .enter .ensures)
 
-slice-read-if7 : tie.Need-slice-read-if7
-slice-read-if7 c = search needs
-
-add-if7 : tie.Need-add-if7
-add-if7 c = search needs
-
-returns-6 : tie.Need-returns-6
-returns-6 c =
-    acquire-refused (unpacked (c .before .before .before .before .before .before .before .before))
-    (c .before .before .before .before .if5 .taken) (c .before .before .before .before .before .if4 .left) (c .before .before .if6 .left) (c .if7 .taken)
-
-mul-depths-2 : tie.Need-mul-depths-2
-mul-depths-2 c = search needs
-
-slice-read-depths : tie.Need-slice-read-depths
-slice-read-depths c = search needs
-
-add-depths : tie.Need-add-depths
-add-depths c =
-    let d = depth-below (unpacked (c .before .before .before .before .before .before .before .before .before)) (search needs) (c .before .before .before .before .before .before .if4 .left) in search needs
-
-mul-depths-3 : tie.Need-mul-depths-3
-mul-depths-3 c = search needs
-
-slice-write-depths-2 : tie.Need-slice-write-depths-2
-slice-write-depths-2 c = search needs
+leave-requires : tie.Need-leave-requires
+leave-requires c κs =
+    let u = c .before .before .before .before .before .before in
+    let s = start u in
+    let small : object (decodeAll (s .args .records .now)) (s .args .e) < locks =
+    omega (arith, c .before .before .before .if4 .left, u .object .ensures) in
+    (s .pre .0, s .pre .1, leaving (unpacked u) (release (c .before .before)), small, s .pre .3 .holder)
 
 same-length-4 : tie.Need-same-length-4
 same-length-4 c = search needs
 
-returns-7 : tie.Need-returns-7
-returns-7 c =
-    acquire-again (unpacked (c .before .before .before .before .before .before .before .before .before))
-    (c .before .before .before .before .before .if5 .taken) (c .before .before .before .before .before .before .if4 .left) (c .before .if7 .left)
-
-slice-read-if8 : tie.Need-slice-read-if8
-slice-read-if8 c = search needs
-
-add-if8 : tie.Need-add-if8
-add-if8 c = search needs
-
-returns-8 : tie.Need-returns-8
-returns-8 c =
-    release-refused (unpacked (c .before .before .before .before .before .before)) (search needs)
-    (c .before .before .before .if4 .left) (c .if8 .taken)
-
-mul-if9 : tie.Need-mul-if9
-mul-if9 c = search needs
-
-slice-read-if9 : tie.Need-slice-read-if9
-slice-read-if9 c = search needs
-
-slice-write-holders-2 : tie.Need-slice-write-holders-2
-slice-write-holders-2 c = search needs
-
-mul-depths-4 : tie.Need-mul-depths-4
-mul-depths-4 c = search needs
-
-slice-write-depths-3 : tie.Need-slice-write-depths-3
-slice-write-depths-3 c = search needs
-
 same-length-5 : tie.Need-same-length-5
 same-length-5 c = search needs
 
-same-length-6 : tie.Need-same-length-6
-same-length-6 c = search needs
-
-returns-9 : tie.Need-returns-9
-returns-9 c =
-    release-last (unpacked (c .before .before .before .before .before .before .before .before)) (search needs)
-    (c .before .before .before .before .before .if4 .left) (c .before .before .if8 .left) (c .if9 .taken)
-
-mul-depths-5 : tie.Need-mul-depths-5
-mul-depths-5 c = search needs
-
-slice-read-depths-2 : tie.Need-slice-read-depths-2
-slice-read-depths-2 c = search needs
-
-sub-depths : tie.Need-sub-depths
-sub-depths c =
-    release-deep (unpacked (c .before .before .before .before .before .before .before .before .before)) (search needs)
-    (c .before .before .before .before .before .before .if4 .left) (c .before .before .before .if8 .left)
-
-mul-depths-6 : tie.Need-mul-depths-6
-mul-depths-6 c = search needs
-
-slice-write-depths-4 : tie.Need-slice-write-depths-4
-slice-write-depths-4 c = search needs
-
-same-length-7 : tie.Need-same-length-7
-same-length-7 c = search needs
-
-returns-10 : tie.Need-returns-10
-returns-10 c =
-    release-inner (unpacked (c .before .before .before .before .before .before .before .before .before)) (search needs)
-    (c .before .before .before .before .before .before .if4 .left) (c .before .before .before .if8 .left) (c .before .if9 .left)
+returns-6 : tie.Need-returns-6
+returns-6 c =
+    let k = c .before .before .before .before .before .before .before in
+    released (unpacked (k .before .before .before .before)) (release k) (k .before .if4 .left) _ _ _ (c .before .before .before .before .leave .ensures)
 
 pub ask-spec : {M : Type 1} → statement M
 ask-spec =
     tie.close
     (tie.spec
     operation-requires
-    task-requires
     object-requires
     cast-at
     mul-if2
@@ -211,39 +134,11 @@ ask-spec =
     same-length
     returns-3
     returns-4
-    slice-read-if6
-    add-holders
-    slice-write-holders
-    mul-depths
-    slice-write-depths
+    enter-requires
     same-length-2
     same-length-3
     returns-5
-    slice-read-if7
-    add-if7
-    returns-6
-    mul-depths-2
-    slice-read-depths
-    add-depths
-    mul-depths-3
-    slice-write-depths-2
+    leave-requires
     same-length-4
-    returns-7
-    slice-read-if8
-    add-if8
-    returns-8
-    mul-if9
-    slice-read-if9
-    slice-write-holders-2
-    mul-depths-4
-    slice-write-depths-3
     same-length-5
-    same-length-6
-    returns-9
-    mul-depths-5
-    slice-read-depths-2
-    sub-depths
-    mul-depths-6
-    slice-write-depths-4
-    same-length-7
-    returns-10)
+    returns-6)

@@ -38,9 +38,9 @@ ask-requires c κs = search needs
 returns : tie.Need-returns Inv-loop μ-loop
 returns c =
     let k = c .before .before .before .before .before .before .before .before .before in
-    asked-refused (k .before .before .args .records .now) (k .loop .e) (k .loop .holders) (k .loop .depths) (k .loop .writes)
-    (k .loop .inv .2) (c .before .before .before .before .ask .result) (search needs) (search needs)
-    (c .before .before .before .before .ask .ensures .0) (c .if1 .taken)
+    let asked = c .before .before .before .before .ask in
+    asked-refused (k .before .before .args .records .now) (k .loop .e) (k .loop .inv .2) (asked .result)
+    (search needs) (search needs) (asked .ensures .0) (c .if1 .taken)
 
 add-e : tie.Need-add-e Inv-loop μ-loop
 add-e c = search needs
@@ -52,8 +52,9 @@ loop-again : tie.Need-loop-again Inv-loop μ-loop
 loop-again c = (search needs, search needs, c .before .before .before .before .ask .ensures .1 (c .if1 .left))
 
 returns-2 : tie.Need-returns-2 Inv-loop μ-loop
-returns-2 c = asked-passed (c .before .before .before .args .records .now) (c .before .loop .e)
-    (c .before .loop .holders) (c .before .loop .depths) (c .before .loop .writes) (c .before .loop .inv .2) (search needs)
+returns-2 c =
+    let k = c .before .loop in
+    asked-passed (c .before .before .before .args .records .now) (k .e) (k .inv .2) (search needs)
 
 pub check-events-spec : {M : Type 1} → statement M
 check-events-spec =

@@ -1,0 +1,100 @@
+-- `recording::leave` meets its contract: each return cites the law of its case. Assumes nothing.
+use borrow.Author.Needs.{needs}
+use Rattle.model.specs.Recording.{decodeAll}
+use Rattle.recording.proofs.Locks.{Locked, leave-refused, leave-deep, leave-freed, leave-kept}
+use Rattle.recording.proofs.leave.Statement.{statement}
+use Rattle.recording.proofs.leave.Tie as tie
+
+-- The entry, from where the event is unpacked.
+abbrev start : tie.After-task → tie.Start
+start c = c .before .before .before .before .before .before
+
+-- The event's task and lock.
+unpacked : (c : tie.After-task)
+    → Locked (decodeAll (start c .args .records .now)) (start c .args .e) (c .task .result)
+    (c .before .before .object .result) (start c .args .holders .now) (start c .args .depths .now)
+unpacked c = record {
+  task-is = c .task .ensures;
+  object-is = c .before .before .object .ensures;
+  lock-is = start c .pre .3;
+  held = start c .pre .4;
+}
+
+object-requires : tie.Need-object-requires
+object-requires c κs = search needs
+
+cast-l : tie.Need-cast-l
+cast-l c = search needs
+
+slice-read-if1 : tie.Need-slice-read-if1
+slice-read-if1 c = search needs
+
+task-requires : tie.Need-task-requires
+task-requires c κs = search needs
+
+add-if1 : tie.Need-add-if1
+add-if1 c = search needs
+
+returns : tie.Need-returns
+returns c =
+    leave-refused (unpacked (c .before)) (c .if1 .taken)
+
+mul-d : tie.Need-mul-d
+mul-d c = search needs
+
+slice-read-d : tie.Need-slice-read-d
+slice-read-d c = search needs
+
+sub-d : tie.Need-sub-d
+sub-d c =
+    leave-deep (unpacked (c .before .before)) (c .before .if1 .left)
+
+mul-depths : tie.Need-mul-depths
+mul-depths c = search needs
+
+slice-write-depths : tie.Need-slice-write-depths
+slice-write-depths c = search needs
+
+slice-write-holders : tie.Need-slice-write-holders
+slice-write-holders c = search needs
+
+same-length : tie.Need-same-length
+same-length c = search needs
+
+same-length-2 : tie.Need-same-length-2
+same-length-2 c = search needs
+
+returns-2 : tie.Need-returns-2
+returns-2 c =
+    let u = c .before .before .before in
+    leave-freed (unpacked u) (c .before .before .if1 .left) (start u .pre .2) (c .if2 .taken)
+
+same-length-3 : tie.Need-same-length-3
+same-length-3 c = search needs
+
+returns-3 : tie.Need-returns-3
+returns-3 c =
+    let u = c .before .before .before in
+    leave-kept (unpacked u) (c .before .before .if1 .left) (start u .pre .2) (c .if2 .left)
+
+pub leave-spec : {M : Type 1} → statement M
+leave-spec =
+    tie.close
+    (tie.spec
+    object-requires
+    cast-l
+    slice-read-if1
+    task-requires
+    add-if1
+    returns
+    mul-d
+    slice-read-d
+    sub-d
+    mul-depths
+    slice-write-depths
+    slice-write-holders
+    same-length
+    same-length-2
+    returns-2
+    same-length-3
+    returns-3)
