@@ -2,12 +2,12 @@
 use Prim.Native.Nat.{ℕ, _+_, _*_, _%_, _^_, _≤_, _<_}
 use mathlib.Core.Path.{_≡_, refl, sym, ap, _∙_}
 use mathlib.Core.Logic.{_⊎_, ⊎-elim, _≢_}
-use mathlib.Core.Bool.{Bool, true, false, _&&_, and-false, true≢false}
+use mathlib.Core.Bool.{Bool, true, false, not, _&&_, and-false, true≢false}
 use mathlib.Core.List.{List, _∷_}
 use native.Mathlib.Omega.{arith}
 use native.Mathlib.Numerals.{add-one}
 use lib.Bits.{bitAnd, bitOr}
-use lib.Dec.{T, not-T, eqb, ltb}
+use lib.Dec.{T, not-T, ltb}
 use lib.ListN.{length, getD, drop, drop-of-length-le, length-drop}
 use lib.Seq.{drop-cons}
 use borrow.Author.Tests.{eq-eqb, ne-eqb, lt-ltb, le-ltb}
@@ -18,7 +18,7 @@ use Rattle.model.specs.Trace.{Trace, at, task, object, isEvent, isAcquire}
 use Rattle.model.specs.Recording.{decodeAll}
 use Rattle.model.specs.Relations.{held}
 use Rattle.laws.specs.Chain.{Chain, signature, start, add, fits, completing, chainOf}
-use Rattle.laws.proofs.Tests.{parts, is-true, is-false, tests}
+use Rattle.laws.proofs.Tests.{parts, decided, is-true, is-false, tests}
 use Rattle.laws.proofs.Bytes.{numbers-length}
 use Rattle.laws.proofs.Pattern.{isPattern-iff}
 use Rattle.laws.proofs.Trace.{isEvent-iff, decodeAll-length}
@@ -29,34 +29,35 @@ use Rattle.deadlock.specs.Judged.{joins}
 
 -- ---- one event
 
-module _ (σ : Trace) (ok : WellFormed σ) (last tasks guards e : ℕ) {op : ℕ} (is-op : op ≡ at σ e .op) where
-  -- What is no acquire does not fit.
-  pub fits-acquire : op ≢ 2 → false ≡ fits (signature σ) (chainOf 0 last tasks guards) e
-  fits-acquire d = rw (isAcquire-none σ e is-op d)
+-- By its operation and its own lock an event is told to be an outer acquire.
+module _ (σ : Trace) (ok : WellFormed σ) (e : ℕ) {op : ℕ} (is-op : op ≡ at σ e .op) where
+  -- Another operation is none,
+  pub acquires-not : op ≢ 2 → false ≡ isAcquire σ e
+  acquires-not d = sym (isAcquire-none σ e is-op d)
 
-  module _ {h o : ℕ} (is-held : h ≡ held σ e) (is-object : o ≡ object σ e) where
-    outer : op ≡ 2 → hasBit h o ≡ false → isAcquire σ e ≡ true
-    outer a n = acquire-outer σ ok e op is-op ∙ rw (← is-held, ← is-object, n, eq-eqb op 2 a)
+  -- and an acquire is one where its lock is not held.
+  pub acquires-own : op ≡ 2 → {h o : ℕ} → h ≡ held σ e → o ≡ object σ e → not (hasBit h o) ≡ isAcquire σ e
+  acquires-own a p q = rw (p, q, acquire-outer σ ok e op is-op, a)
 
-    -- Nor does an inner acquire, whose own lock is held.
-    pub fits-own : op ≡ 2 → hasBit h o ≡ true → false ≡ fits (signature σ) (chainOf 0 last tasks guards) e
-    fits-own a y = rw (acquire-outer σ ok e op is-op, ← is-held, ← is-object, y, eq-eqb op 2 a)
+module _ (σ : Trace) (last tasks guards e : ℕ) {h : ℕ} (is-held : h ≡ held σ e) where
+  -- The last event's lock must be held.
+  pub fits-lock : hasBit h (object σ last) ≡ false → false ≡ fits (signature σ) (chainOf 0 last tasks guards) e
+  fits-lock n = rw (← is-held, n, and-false)
 
-    -- The last event's lock must be held.
-    pub fits-lock : hasBit h (object σ last) ≡ false
-        → false ≡ fits (signature σ) (chainOf 0 last tasks guards) e
-    fits-lock n = rw (← is-held, n, and-false)
+  module _ {t : ℕ} (is-task : t ≡ task σ e) where
+    -- The task must be new.
+    pub fits-task : hasBit tasks t ≡ true → false ≡ fits (signature σ) (chainOf 0 last tasks guards) e
+    fits-task y = rw (← is-task, y, and-false)
 
-    module _ {t : ℕ} (is-task : t ≡ task σ e) where
-      -- The task must be new.
-      pub fits-task : hasBit tasks t ≡ true → false ≡ fits (signature σ) (chainOf 0 last tasks guards) e
-      fits-task y = rw (← is-task, y, and-false)
+    -- No guard may be held.
+    pub fits-guards : bitAnd guards h ≢ 0 → false ≡ fits (signature σ) (chainOf 0 last tasks guards) e
+    fits-guards d = rw (← is-held, ne-eqb (bitAnd guards h) 0 d, and-false)
 
-      -- The rest is that no guard is held.
-      pub fits-guards : op ≡ 2 → hasBit h o ≡ false → hasBit h (object σ last) ≡ true
-          → hasBit tasks t ≡ false
-          → eqb (bitAnd guards h) 0 ≡ fits (signature σ) (chainOf 0 last tasks guards) e
-      fits-guards a x y n = rw (outer a x, ← is-held, ← is-task, y, n)
+    -- The rest is that the event is an acquire.
+    pub fits-acquire : hasBit h (object σ last) ≡ true → hasBit tasks t ≡ false → bitAnd guards h ≡ 0
+        → isAcquire σ e ≡ fits (signature σ) (chainOf 0 last tasks guards) e
+    fits-acquire y n z =
+        decided (isAcquire σ e) (λ a. rw (a, ← is-held, ← is-task, y, n, z)) (λ a. rw a)
 
 -- ---- the next event of a chain
 

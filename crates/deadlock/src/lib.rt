@@ -12,6 +12,7 @@ ghost use Rattle.model.specs.Lists.{all, hasBit};
 ghost use Rattle.model.specs.Bytes.{encode, numbers, isWhole};
 ghost use Rattle.model.specs.Trace.{tasks, locks, task, object, isEvent, isAcquire};
 ghost use Rattle.model.specs.Recording.{decodeAll};
+ghost use Rattle.model.specs.Relations.{held};
 ghost use Rattle.model.specs.Pattern.{isPattern};
 ghost use Rattle.model.specs.Calls.Check.{checkEvents};
 ghost use Rattle.model.specs.Calls.Verdict.{verdict};
@@ -49,8 +50,20 @@ pub fn with_task(records: &[u8], tasks: u64, e: usize) -> u64
     tasks | (1 << (recording::task(records, e) as u64))
 }
 
-// The number e is that of an outer acquire: its own lock is not among the held ones.
-fn is_acquire(records: &[u8], holding: &[u64], e: usize) -> bool
+// Event e, at which its task holds the locks of the mask, is an outer acquire: its own lock is not in the mask.
+pub fn is_acquire(records: &[u8], mask: u64, e: usize) -> bool
+    requires { ⌜ (1 ≤ e) × (2 * e ≤ length (now records))
+        × (checkEvents (decodeAll (now records)) .refusal ≡ 0) × (mask ≡ held (decodeAll (now records)) e) ⌝ }
+    ensures { λ r. ⌜ r ≡ isAcquire (decodeAll (now (records .entry))) e ⌝ }
+{
+    if recording::operation(records, e) != 2 {
+        return false;
+    }
+    !in_mask(mask, recording::object(records, e) as u64)
+}
+
+// The number e is that of an acquire, with which a pattern may begin.
+fn begins(records: &[u8], holding: &[u64], e: usize) -> bool
     requires { ⌜ (length (now records) ≤ recordsLength) × (checkEvents (decodeAll (now records)) .refusal ≡ 0)
         × Holding (decodeAll (now records)) (now holding) ⌝ }
     ensures { λ r. ⌜ r ≡ (isEvent (decodeAll (now (records .entry))) e
@@ -62,14 +75,11 @@ fn is_acquire(records: &[u8], holding: &[u64], e: usize) -> bool
     if records.len() / 2 < e {
         return false;
     }
-    if recording::operation(records, e) != 2 {
-        return false;
-    }
-    !in_mask(holding[e], recording::object(records, e) as u64)
+    is_acquire(records, holding[e], e)
 }
 
-// Event e may follow a chain that ends with the acquire `last`, of these tasks and with these held locks: its
-// task is new, and its held locks have the last event's lock and none of the chain's.
+// Event e may follow a chain that ends with the acquire `last`, of these tasks and with these held locks: it is
+// an acquire, its task is new, and its held locks have the last event's lock and none of the chain's.
 pub fn follows(
     records: &[u8],
     holding: &[u64],
@@ -84,20 +94,17 @@ pub fn follows(
     ensures { λ r. ⌜ r ≡ fits (signature (decodeAll (now (records .entry))))
         (chainOf 0 last tasks guards) e ⌝ }
 {
-    if recording::operation(records, e) != 2 {
-        return false;
-    }
     let held = holding[e];
-    if in_mask(held, recording::object(records, e) as u64) {
-        return false;
-    }
     if !lock_in_mask(records, held, last) {
         return false;
     }
     if in_mask(tasks, recording::task(records, e) as u64) {
         return false;
     }
-    guards & held == 0
+    if guards & held != 0 {
+        return false;
+    }
+    is_acquire(records, held, e)
 }
 
 // The number e may come next in a pattern that begins with a, after a chain that ends with the acquire
@@ -170,7 +177,7 @@ pub fn lends_pattern(records: &[u8], holding: &[u64], pattern: &[u8]) -> bool
         return false;
     }
     let a = recording::number(pattern, 0) as usize;
-    if !is_acquire(records, holding, a) {
+    if !begins(records, holding, a) {
         return false;
     }
     completes(records, holding, pattern, a)

@@ -9,38 +9,29 @@ use native.Mathlib.Omega.{arith}
 use lib.Dec.{T, eqb}
 use lib.ListN.{length, getD, set, length-set}
 use lib.Seq.{getD-set-same, getD-set-other}
-use borrow.Author.Tests.{eq-eqb, ne-eqb, eqb-true}
+use borrow.Author.Tests.{ne-eqb, eqb-true}
 use Rattle.model.specs.Trace.{Trace, at, object, isAcquire}
 use Rattle.model.specs.Relations.{held}
 use Rattle.laws.specs.Sizes.{tableLength}
 use Rattle.laws.specs.Chain.{Chain, signature, fits}
 use Rattle.laws.proofs.Bits.{hasBit-none}
 use Rattle.laws.proofs.Tests.{and-l, and-i, is-false, decided, cond-elim, equal?}
-use Rattle.laws.proofs.Faults.{isAcquire-none}
-use Rattle.laws.proofs.WellFormed.{WellFormed, acquire-outer}
-use Rattle.model.specs.Lists.{hasBit}
 use Rattle.pruning.specs.Linked.{isNested, Link, Linked}
 
 -- ---- nested acquires
 
-module _ (σ : Trace) (ok : WellFormed σ) (e later : ℕ) {op : ℕ} (is-op : op ≡ at σ e .op) where
-  -- Another event than an acquire is passed over,
-  pub nested-other : op ≢ 2 → later ≡ cond (isNested σ e) e later
-  nested-other d = rw (isAcquire-none σ e is-op d)
+module _ (σ : Trace) (e later : ℕ) where
+  -- An event at which nothing is held is passed over,
+  pub nested-free : {h : ℕ} → h ≡ held σ e → h ≡ 0 → later ≡ cond (isNested σ e) e later
+  nested-free q z = rw (← q, z, and-false (isAcquire σ e))
 
-  module _ (a : op ≡ 2) {h : ℕ} (is-held : h ≡ held σ e) where
-    -- and so is an acquire that holds nothing,
-    pub nested-free : h ≡ 0 → later ≡ cond (isNested σ e) e later
-    nested-free z = rw (← is-held, z, and-false (isAcquire σ e))
+  -- and so is one that is no acquire;
+  pub nested-other : isAcquire σ e ≡ false → later ≡ cond (isNested σ e) e later
+  nested-other n = rw n
 
-    -- or its own lock;
-    pub nested-own : {o : ℕ} → o ≡ object σ e → hasBit h o ≡ true → later ≡ cond (isNested σ e) e later
-    nested-own q y = rw (acquire-outer σ ok e op is-op, ← is-held, ← q, y, eq-eqb op 2 a)
-
-    -- any other is nested.
-    pub nested-held : {o : ℕ} → o ≡ object σ e → hasBit h o ≡ false → h ≢ 0 → e ≡ cond (isNested σ e) e later
-    nested-held q n d =
-        rw (acquire-outer σ ok e op is-op, ← is-held, ← q, n, eq-eqb op 2 a, ne-eqb h 0 d)
+  -- any other is nested.
+  pub nested-held : {h : ℕ} → h ≡ held σ e → h ≢ 0 → isAcquire σ e ≡ true → e ≡ cond (isNested σ e) e later
+  nested-held q d y = rw (← q, y, ne-eqb _ 0 d)
 
 -- A nested event is an acquire.
 pub nested-acquire : (σ : Trace) (e : ℕ) → T (isNested σ e) → T (isAcquire σ e)

@@ -21,17 +21,15 @@ ghost use Rattle.pruning.specs.Linked.{isNested, Linked, Marked, isNear}
 // Event e where it is a nested acquire, and otherwise `later`.
 fn nested_or(records: &[u8], holding: &[u64], e: usize, later: u16) -> u16
     requires { ⌜ (1 ≤ e) × (2 * e ≤ length (now records)) × (length (now records) ≤ recordsLength)
-        × Holding (decodeAll (now records)) (now holding)
-        × (checkEvents (decodeAll (now records)) .refusal ≡ 0) ⌝ }
+        × (checkEvents (decodeAll (now records)) .refusal ≡ 0)
+        × Holding (decodeAll (now records)) (now holding) ⌝ }
     ensures { λ r. ⌜ r ≡ cond (isNested (decodeAll (now (records .entry))) e) e later ⌝ }
 {
-    if recording::operation(records, e) != 2 {
+    let held = holding[e];
+    if held == 0 {
         return later;
     }
-    if holding[e] == 0 {
-        return later;
-    }
-    if deadlock::in_mask(holding[e], recording::object(records, e) as u64) {
+    if !deadlock::is_acquire(records, held, e) {
         return later;
     }
     e as u16
@@ -39,8 +37,8 @@ fn nested_or(records: &[u8], holding: &[u64], e: usize, later: u16) -> u16
 
 // Links each event, and number 0, to the first nested acquire after it, from the last event down.
 pub fn link_nested(records: &[u8], holding: &[u64], next: &mut [u16])
-    requires { ⌜ (length (now records) ≤ recordsLength) × Holding (decodeAll (now records)) (now holding)
-        × (length (now next) ≡ tableLength) × (checkEvents (decodeAll (now records)) .refusal ≡ 0) ⌝ }
+    requires { ⌜ (length (now records) ≤ recordsLength) × (checkEvents (decodeAll (now records)) .refusal ≡ 0)
+        × Holding (decodeAll (now records)) (now holding) × (length (now next) ≡ tableLength) ⌝ }
     ensures { λ r. ⌜ Linked (decodeAll (now (records .entry))) (now (next .exit)) ⌝ }
 {
     let mut top = 0;

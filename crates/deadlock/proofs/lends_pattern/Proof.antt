@@ -33,8 +33,8 @@ number-requires c κs = search needs
 cast-a : tie.Need-cast-a
 cast-a c = search needs
 
-is-acquire-requires : tie.Need-is-acquire-requires
-is-acquire-requires c κs = search needs
+begins-requires : tie.Need-begins-requires
+begins-requires c κs = search needs
 
 returns-4 : tie.Need-returns-4
 returns-4 c =
@@ -42,7 +42,7 @@ returns-4 c =
     .records .now)) (c .before .before .before .before .before .before .before .before .before .args
     .pattern .now) (c .before .before .before .before .before .if1 .left)
     (c .before .before .before .before .if2 .left) (c .before .before .before .if3 .left)
-    (rw (c .before .before .number .ensures) at (sym (c .before .is-acquire .ensures) ∙ not-true _
+    (rw (c .before .before .number .ensures) at (sym (c .before .begins .ensures) ∙ not-true _
     (c .if4 .taken)))
 
 completes-requires : tie.Need-completes-requires
@@ -51,7 +51,7 @@ completes-requires c κs =
     let σ = decodeAll (s .args .records .now) in
     let a = c .before .before .number .result in
     let t : T (isEvent σ a && isAcquire σ a) =
-    rw (sym (c .before .is-acquire .ensures) ∙ not-false _ (c .if4 .left)) tt in
+    rw (sym (c .before .begins .ensures) ∙ not-false _ (c .if4 .left)) tt in
     let event = isEvent-iff σ a .0 (search parts) in
     let size = decodeAll-length (s .args .records .now) in (
       event .0,
@@ -72,7 +72,7 @@ returns-5 c =
     .before .before .args .pattern .now) (c .before .before .before .before .before .before .if1
     .left) (c .before .before .before .before .before .if2 .left)
     (c .before .before .before .before .if3 .left)
-    (rw first at (sym (c .before .before .is-acquire .ensures) ∙ not-false _ (c .before .if4 .left)))
+    (rw first at (sym (c .before .before .begins .ensures) ∙ not-false _ (c .before .if4 .left)))
 
 pub lends-pattern-spec : {M : Type 1} → statement M
 lends-pattern-spec =
@@ -83,7 +83,7 @@ lends-pattern-spec =
     returns-3
     number-requires
     cast-a
-    is-acquire-requires
+    begins-requires
     returns-4
     completes-requires
     returns-5)

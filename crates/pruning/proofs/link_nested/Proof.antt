@@ -21,7 +21,7 @@ loop-holds : tie.Need-loop-holds Inv-loop μ-loop
 loop-holds c =
     let s = c .before .before .before in
     let b = s .args .records .now in
-    (omega arith, linked-last (decodeAll b) (s .args .next .now) (s .pre .2) _ (decodeAll-length b))
+    (omega arith, linked-last (decodeAll b) (s .args .next .now) (s .pre .3) _ (decodeAll-length b))
 
 mul-next : tie.Need-mul-next Inv-loop μ-loop
 mul-next c = search needs
@@ -35,7 +35,7 @@ nested-or-requires : tie.Need-nested-or-requires Inv-loop μ-loop
 nested-or-requires c κs =
     let s = c .before .before .before .before .before in
     let k = c .before .loop in
-    (c .loop-test .taken, omega (arith, k .inv .0), s .pre .0, s .pre .1, s .pre .3)
+    (c .loop-test .taken, omega (arith, k .inv .0), s .pre .0, s .pre .1, s .pre .2)
 
 sub-e : tie.Need-sub-e Inv-loop μ-loop
 sub-e c = search needs
@@ -61,7 +61,7 @@ slice-write-next-2 c = omega (arith, c .before .loop .inv .1 .long)
 same-length : tie.Need-same-length Inv-loop μ-loop
 same-length c =
     let s = c .before .before .before .before .before in
-    let k = c .before .loop in simp length-set (k .inv .1 .long ∙ sym (s .pre .2))
+    let k = c .before .loop in simp length-set (k .inv .1 .long ∙ sym (s .pre .3))
 
 returns : tie.Need-returns Inv-loop μ-loop
 returns c =
