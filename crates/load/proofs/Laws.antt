@@ -1,75 +1,68 @@
 -- The depth of a lock after one event more of accepted records, the count of the events after which it is
 -- above 0, and the cases of the rounding. Assumes nothing.
-use Prim.Native.Nat.{ℕ, zero, suc, _+_, _-_, _*_, _/_, _%_, _≤_, _<_}
-use mathlib.Core.Path.{_≡_, refl, sym, _∙_}
+use Prim.Native.Nat.{ℕ, _+_, _-_, _*_, _/_, _%_, _≤_, _<_}
+use mathlib.Core.Path.{_≡_, sym, _∙_}
 use mathlib.Core.Logic.{_≢_}
-use mathlib.Core.Bool.{Bool, true, cond, not}
-use mathlib.Core.List.{List, _∷_, []}
+use mathlib.Core.Bool.{Bool, cond}
+use mathlib.Core.List.{_∷_, []}
 use native.Mathlib.Numerals.{add-one}
 use native.Mathlib.Omega.{arith}
-use lib.Dec.{T, T-not, eqb→eq, eqb-refl, ltb}
+use lib.Dec.{T, ltb}
 use lib.ListN.{length, length-append}
 use borrow.Author.Tests.{eq-eqb, ne-eqb, lt-ltb, le-ltb}
 use Rattle.model.specs.Lists.{filter, from}
-use Rattle.model.specs.Trace.{Trace, tasks, at, task, object, enters, leaves}
-use Rattle.model.specs.Recording.{decodeAll}
-use Rattle.model.specs.Relations.{holds}
-use Rattle.model.specs.Calls.Check.{checkEvents}
+use Rattle.model.specs.Trace.{Trace, at, object, enters, leaves}
 use Rattle.model.specs.Calls.Load.{isHeldAfter, percent}
 use Rattle.laws.specs.Walked.{LockDepth}
 use Rattle.laws.proofs.Tests.{decided}
 use Rattle.laws.proofs.Filters.{filter-next}
-use Rattle.laws.proofs.Trace.{record-event}
 use Rattle.laws.proofs.Faults.{enters-op, leaves-op}
 use Rattle.laws.proofs.WellFormed.{WellFormed}
 use Rattle.laws.proofs.LockDepths.{lockDepth-access, lockDepth-apart, lockDepth-enter, lockDepth-leave}
 use Rattle.laws.proofs.LockDepths.{lockDepth-any, lockDepth-fits}
-use Rattle.laws.proofs.Questions.{events-sound}
 
 -- ---- one event
 
-module _ (b : List ℕ) (accepted : checkEvents (decodeAll b) .refusal ≡ 0) (e : ℕ)
-    (inside : (1 ≤ e) × (2 * e ≤ length b)) (op : ℕ) (is-op : (op < 4) × (op ≡ at (decodeAll b) e .op))
-    (l d : ℕ) (z : LockDepth (decodeAll b) e l d) where
+-- Event e of a well-formed trace, with its operation, before which lock l is at depth d.
+pub record Coming (σ : Trace) (e op l d : ℕ) : Type 0 where
+  pub sound : WellFormed σ
+  pub op-is : (op < 4) × (op ≡ at σ e .op)
+  pub depth-is : LockDepth σ e l d
+
+module _ {σ : Trace} {e op l d : ℕ} (u : Coming σ e op l d) where
+  -- A depth is below the event's number.
+  pub depth-below : 1 ≤ e → d < e
+  depth-below h = omega (arith, lockDepth-fits σ (u .depth-is))
+
   -- A read or a write leaves the depth.
-  pub access-depth : op < 2 → LockDepth (decodeAll b) (e + 1) l d
+  pub access-depth : op < 2 → LockDepth σ (e + 1) l d
   access-depth a =
       rw (add-one e)
-      (lockDepth-access (decodeAll b) (enters-op (decodeAll b) e (is-op .1) ∙ ne-eqb op 2 (omega arith))
-      (leaves-op (decodeAll b) e (is-op .1) ∙ ne-eqb op 3 (omega arith)) z)
+      (lockDepth-access σ (enters-op σ e (u .op-is .1) ∙ ne-eqb op 2 (omega arith))
+      (leaves-op σ e (u .op-is .1) ∙ ne-eqb op 3 (omega arith)) (u .depth-is))
 
-  -- So does an event of another lock.
-  pub other-depth : (o : ℕ) → o ≡ object (decodeAll b) e → o ≢ l → LockDepth (decodeAll b) (e + 1) l d
-  other-depth o q n = rw (add-one e) (lockDepth-apart (decodeAll b) (λ r. n (q ∙ r)) z)
+  module _ {o : ℕ} (q : o ≡ object σ e) where
+    -- So does an event of another lock.
+    pub other-depth : o ≢ l → LockDepth σ (e + 1) l d
+    other-depth n = rw (add-one e) (lockDepth-apart σ (λ r. n (q ∙ r)) (u .depth-is))
 
-  sound : WellFormed (decodeAll b)
-  sound = events-sound b accepted
+    module _ (r : o ≡ l) where
+      own : LockDepth σ e (object σ e) d
+      own = rw (sym r ∙ q) at (u .depth-is)
 
-  module _ (o : ℕ) (q : o ≡ object (decodeAll b) e) (r : o ≡ l) where
-    at-lock : LockDepth (decodeAll b) e (object (decodeAll b) e) d
-    at-lock = rw (sym r ∙ q) at z
+      -- An acquire of the lock goes one deeper.
+      pub enter-depth : op ≡ 2 → LockDepth σ (e + 1) l (d + 1)
+      enter-depth a =
+          let entered : T (enters σ e) = rw (enters-op σ e (u .op-is .1), a) tt in
+          rw (add-one e, add-one d, sym r ∙ q) (lockDepth-enter σ (u .sound) entered own .1)
 
-    -- An acquire of the lock goes one deeper.
-    pub acquire-depth : op ≡ 2 → LockDepth (decodeAll b) (e + 1) l (d + 1)
-    acquire-depth a =
-        let entered : T (enters (decodeAll b) e) = rw (enters-op (decodeAll b) e (is-op .1), eq-eqb op 2 a) tt in
-        rw (add-one e, add-one d, sym r ∙ q) (lockDepth-enter (decodeAll b) sound entered at-lock .1)
-
-    left : 2 ≤ op → op ≢ 2 → T (leaves (decodeAll b) e)
-    left a n = rw (leaves-op (decodeAll b) e (is-op .1), eq-eqb op 3 (omega (arith, is-op))) tt
-
-    -- A release of the lock goes one back,
-    pub release-depth : 2 ≤ op → op ≢ 2 → LockDepth (decodeAll b) (e + 1) l (d - 1)
-    release-depth a n =
-        rw (add-one e, sym r ∙ q) (lockDepth-leave (decodeAll b) sound (left a n) at-lock .2)
-
-    -- from a depth above 0.
-    pub release-deep : 2 ≤ op → op ≢ 2 → 0 < d
-    release-deep a n = lockDepth-leave (decodeAll b) sound (left a n) at-lock .1
-
-  -- A depth is below the event's number.
-  pub depth-below : d < e
-  depth-below = omega (arith, lockDepth-fits (decodeAll b) z)
+      -- A release goes back by one, from a depth above 0.
+      pub leave-depth : 2 ≤ op → op ≢ 2 → (0 < d) × LockDepth σ (e + 1) l (d - 1)
+      leave-depth a n =
+          let left : T (leaves σ e) =
+          rw (leaves-op σ e (u .op-is .1), eq-eqb op 3 (omega (arith, u .op-is))) tt in
+          let (_, deep, after) = lockDepth-leave σ (u .sound) left own in
+          (deep, rw (add-one e, sym r ∙ q) after)
 
 -- ---- counting
 

@@ -31,8 +31,7 @@ loop-holds c =
       search needs,
       search needs,
       lockDepth-start (decodeAll b) (c .before .args .lock),
-      search
-          needs,
+      search needs,
     )
 
 depth-after-requires : tie.Need-depth-after-requires Inv-loop μ-loop
