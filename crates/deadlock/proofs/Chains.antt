@@ -41,7 +41,8 @@ module _ (σ : Trace) (ok : WellFormed σ) (e : ℕ) {op : ℕ} (is-op : op ≡ 
 
 module _ (σ : Trace) (last tasks guards e : ℕ) {h : ℕ} (is-held : h ≡ held σ e) where
   -- The last event's lock must be held.
-  pub fits-lock : hasBit h (object σ last) ≡ false → false ≡ fits (signature σ) (chainOf 0 last tasks guards) e
+  pub fits-lock : hasBit h (object σ last) ≡ false
+      → false ≡ fits (signature σ) (chainOf 0 last tasks guards) e
   fits-lock n = rw (← is-held, n, and-false)
 
   module _ {t : ℕ} (is-task : t ≡ task σ e) where

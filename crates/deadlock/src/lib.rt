@@ -50,7 +50,8 @@ pub fn with_task(records: &[u8], tasks: u64, e: usize) -> u64
     tasks | (1 << (recording::task(records, e) as u64))
 }
 
-// Event e, at which its task holds the locks of the mask, is an outer acquire: its own lock is not in the mask.
+// Event e, at which its task holds the locks of the mask, is an outer acquire: its own lock is not among
+// them.
 pub fn is_acquire(records: &[u8], mask: u64, e: usize) -> bool
     requires { ⌜ (1 ≤ e) × (2 * e ≤ length (now records))
         × (checkEvents (decodeAll (now records)) .refusal ≡ 0) × (mask ≡ held (decodeAll (now records)) e) ⌝ }
@@ -78,8 +79,8 @@ fn begins(records: &[u8], holding: &[u64], e: usize) -> bool
     is_acquire(records, holding[e], e)
 }
 
-// Event e may follow a chain that ends with the acquire `last`, of these tasks and with these held locks: it is
-// an acquire, its task is new, and its held locks have the last event's lock and none of the chain's.
+// Event e may follow a chain that ends with the acquire `last`, of these tasks and with these held locks: it
+// is an acquire, its task is new, and its held locks have the last event's lock and none of the chain's.
 pub fn follows(
     records: &[u8],
     holding: &[u64],

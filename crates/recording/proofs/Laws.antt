@@ -57,7 +57,8 @@ module _ {σ : Trace} {e op o : ℕ} {holders depths writes : List ℕ} (u : Com
             ⊎-elim (λ (q : f ≡ e). rw q none) (λ d. z .faultless f a (omega arith)) (equal? f e)
 
     unwritten : op ≢ 1 → LatestEvents (isWrite σ) (object σ) (suc e) writes
-    unwritten d = latest-keep (isWrite σ) (object σ) e writes (z .write) (isWrite-op σ e is-op ∙ ne-eqb op 1 d)
+    unwritten d =
+        latest-keep (isWrite σ) (object σ) e writes (z .write) (isWrite-op σ e is-op ∙ ne-eqb op 1 d)
 
     -- A read or a write leaves the holders.
     unlocked : op < 2 → Holders σ (suc e) holders depths
@@ -94,7 +95,8 @@ module _ {σ : Trace} {e op o : ℕ} {holders depths writes : List ℕ} (u : Com
     written a =
         rw is-object (
           sym (fault-write σ e is-op a),
-          λ _. next holders depths (set writes (object σ e) e) (fault-write σ e is-op a) (unlocked (omega arith))
+          λ _. next holders depths (set writes (object σ e) e) (fault-write σ e is-op a)
+              (unlocked (omega arith))
               (length-set writes (object σ e) e ∙ z .long)
               (latest-set (isWrite σ) (object σ) e writes (z .write) write
               (omega (arith, z .long, u .object-is))),

@@ -1,4 +1,5 @@
--- How the check goes on after one acquire or release, by the holder and the depth of its lock. Assumes nothing.
+-- How the check goes on after one acquire or release, by the holder and the depth of its lock.
+-- Assumes nothing.
 use Prim.Native.Nat.{ℕ, suc, _+_, _-_, _≤_, _<_}
 use mathlib.Core.Path.{_≡_, refl, sym, _∙_}
 use mathlib.Core.Logic.{_≢_}
@@ -77,7 +78,9 @@ module _ {σ : Trace} {e t o : ℕ} {holders depths : List ℕ} (u : Locked σ e
         same = rw (← (u .task-is .1), ← (u .object-is .1), n, add-one t)
 
         free : T (eqb (getD holders o 0) 0 || eqb (getD holders o 0) (suc (task σ e)))
-        free = or-r (eqb (getD holders o 0) 0) _ (eq→eqb (getD holders o 0) (suc (task σ e)) (rw (u .object-is .1) (sym same)))
+        free =
+            or-r (eqb (getD holders o 0) 0) _
+            (eq→eqb (getD holders o 0) (suc (task σ e)) (rw (u .object-is .1) (sym same)))
 
   own : holds σ e (task σ e) (object σ e) ≡ eqb (getD holders o 0) (t + 1)
   own =

@@ -59,8 +59,8 @@ pub fn object(records: &[u8], e: usize) -> u16
     (((records[at] & 3) as u16) << 8) | (records[at + 1] as u16)
 }
 
-// Puts question 5 to acquire e, with the holder of each lock (its task plus 1, or 0) and how deep it is in it:
-// 5, or 0, and then its task is the holder, one deeper. A depth is below e, so it fits.
+// Puts question 5 to acquire e, with the holder of each lock (its task plus 1, or 0) and how deep it is in
+// it: 5, or 0, and then its task is the holder, one deeper. A depth is below e, so it fits.
 fn enter(records: &[u8], e: usize, holders: &mut [u8], depths: &mut [u16]) -> u64
     requires { ⌜ (1 ≤ e) × (2 * e ≤ length (now records)) × (e < tableLength)
         × T (enters (decodeAll (now records)) e) × (object (decodeAll (now records)) e < locks)
@@ -83,8 +83,8 @@ fn enter(records: &[u8], e: usize, holders: &mut [u8], depths: &mut [u16]) -> u6
     0
 }
 
-// Puts question 6 to release e, with the same tables: 6, or 0, and then its task is one less deep, and at depth
-// 0 the holder no more.
+// Puts question 6 to release e, with the same tables: 6, or 0, and then its task is one less deep, and at
+// depth 0 the holder no more.
 fn leave(records: &[u8], e: usize, holders: &mut [u8], depths: &mut [u16]) -> u64
     requires { ⌜ (1 ≤ e) × (2 * e ≤ length (now records))
         × T (leaves (decodeAll (now records)) e) × (object (decodeAll (now records)) e < locks)

@@ -20,7 +20,6 @@ use Rattle.laws.proofs.Relations.{predecessor-below, writer-below, held-lt}
 use Rattle.laws.proofs.Marks.{marked-match, marked-le}
 use Rattle.laws.proofs.Matches.{matches-start, matches-end}
 use Rattle.laws.proofs.LockDepths.{lockDepths-start}
-use Rattle.laws.specs.EventKinds.{marked}
 use Rattle.relations.specs.Tables.{operation, Tables, Long, Noted}
 
 -- Before event 1 the tables are clear.
@@ -51,7 +50,8 @@ noted-start σ operations owners objects holding predecessors writers matches lo
 
 -- After the last event each table has its relation for every event.
 pub noted-end : (b : List ℕ) (e : ℕ)
-    {operations tasks objects holding predecessors writers matches latest writes depths locksets acquires : List ℕ}
+    {operations tasks objects holding predecessors writers matches : List ℕ}
+    {latest writes depths locksets acquires : List ℕ}
     → Noted (decodeAll b) e operations tasks objects holding predecessors writers matches latest writes
     depths locksets
     acquires

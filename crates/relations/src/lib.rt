@@ -79,8 +79,8 @@ fn note_access(records: &[u8], e: usize, writers: &mut [u16], writes: &mut [u16]
     }
 }
 
-// The kind of event e: its operation, or 4 for an inner acquire or release, by the depth of its lock, which then
-// is that after the event.
+// The kind of event e: its operation, or 4 for an inner acquire or release, by the depth of its lock. The
+// depths are then those after the event.
 fn kind_of(records: &[u8], e: usize, depths: &mut [u16]) -> u8
     requires { ⌜ (1 ≤ e) × (2 * e ≤ length (now records)) × (e < tableLength)
         × (checkEvents (decodeAll (now records)) .refusal ≡ 0)
@@ -225,8 +225,8 @@ fn note_event(
     ensures { λ r. ⌜ Noted (decodeAll (now (records .entry))) (e + 1) (now (operations .exit))
         (now (tasks .exit))
         (now (objects .exit)) (now (holding .exit)) (now (predecessors .exit)) (now (writers .exit))
-        (now (matches .exit)) (now (latest .exit)) (now (writes .exit)) (now (depths .exit)) (now (locksets .exit))
-        (now (acquires .exit)) ⌝ }
+        (now (matches .exit)) (now (latest .exit)) (now (writes .exit)) (now (depths .exit))
+        (now (locksets .exit)) (now (acquires .exit)) ⌝ }
 {
     note_record(records, e, operations, tasks, objects);
     note_task(records, e, predecessors, latest);

@@ -9,7 +9,8 @@ use Rattle.deadlock.proofs.begins.Statement.{statement}
 use Rattle.deadlock.proofs.begins.Tie as tie
 
 -- A number in range is that of an event.
-inside : (c : tie.Else2) → let s = c .before .before .before .before in (1 ≤ s .args .e) × (s .args .e ≤ length (decodeAll (s .args .records .now)))
+inside : (c : tie.Else2) → let a = c .before .before .before .before .args in
+    (1 ≤ a .e) × (a .e ≤ length (decodeAll (a .records .now)))
 inside c =
     let size = decodeAll-length (c .before .before .before .before .args .records .now) in
     (omega (arith, c .before .if1 .left), omega (arith, c .if2 .left))
@@ -34,8 +35,12 @@ shared-slice-read-is-acquire c = search needs
 is-acquire-requires : tie.Need-is-acquire-requires
 is-acquire-requires c κs =
     let s = c .before .before .before .before .before in
-    let (first, last) = inside (c .before) in
-    (first, omega (arith, last, decodeAll-length (s .args .records .now)), s .pre .1, s .pre .2 .at (s .args .e) first last)
+    let (first, last) = inside (c .before) in (
+      first,
+      omega (arith, last, decodeAll-length (s .args .records .now)),
+      s .pre .1,
+      s .pre .2 .at (s .args .e) first last,
+    )
 
 returns-3 : tie.Need-returns-3
 returns-3 c =

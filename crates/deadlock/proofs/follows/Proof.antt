@@ -12,8 +12,11 @@ use Rattle.deadlock.proofs.follows.Statement.{statement}
 use Rattle.deadlock.proofs.follows.Tie as tie
 
 -- The table has the event's held locks.
-holds : (s : tie.Start) → getD (s .args .holding .now) (s .args .e) 0 ≡ held (decodeAll (s .args .records .now)) (s .args .e)
-holds s = s .pre .6 .at (s .args .e) (s .pre .2) (omega (arith, s .pre .3, decodeAll-length (s .args .records .now)))
+holds : (s : tie.Start) → let a = s .args in
+    getD (a .holding .now) (a .e) 0 ≡ held (decodeAll (a .records .now)) (a .e)
+holds s =
+    s .pre .6 .at (s .args .e) (s .pre .2)
+    (omega (arith, s .pre .3, decodeAll-length (s .args .records .now)))
 
 mul-held : tie.Need-mul-held
 mul-held c = search needs
@@ -66,7 +69,8 @@ returns-4 c =
     c .is-acquire .ensures
     ∙ fits-acquire (decodeAll (a .records .now)) (a .last) (a .tasks) (a .guards) (a .e) (holds s)
     (c .before .before .before .before .task .ensures .1)
-    (sym (c .before .before .before .before .before .before .lock-in-mask .ensures) ∙ not-false _ (c .before .before .before .before .before .if1 .left))
+    (sym (c .before .before .before .before .before .before .lock-in-mask .ensures) ∙ not-false _
+    (c .before .before .before .before .before .if1 .left))
     (sym (c .before .before .before .in-mask .ensures) ∙ c .before .before .if2 .left) (c .before .if3 .left)
 
 pub follows-spec : {M : Type 1} → statement M

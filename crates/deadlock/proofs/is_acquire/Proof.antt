@@ -41,7 +41,8 @@ returns-2 : tie.Need-returns-2
 returns-2 c =
     let s = c .before .before .before .before .before in
     rw (c .in-mask .ensures)
-    (acquires-own (decodeAll (s .args .records .now)) (sound s) (s .args .e) (c .before .before .before .operation .ensures .1)
+    (acquires-own (decodeAll (s .args .records .now)) (sound s) (s .args .e)
+    (c .before .before .before .operation .ensures .1)
     (c .before .before .if1 .left) (s .pre .3) (c .before .object .ensures .1))
 
 pub is-acquire-spec : {M : Type 1} → statement M

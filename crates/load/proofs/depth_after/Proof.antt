@@ -34,7 +34,8 @@ cast-if2 : tie.Need-cast-if2
 cast-if2 c = search needs
 
 returns-2 : tie.Need-returns-2
-returns-2 c = other-depth (unpacked (c .before .before .before)) (c .before .object .ensures .1) (c .if2 .taken)
+returns-2 c = other-depth (unpacked (c .before .before .before)) (c .before .object .ensures .1)
+    (c .if2 .taken)
 
 add-result : tie.Need-add-result
 add-result c =
@@ -44,14 +45,16 @@ add-result c =
 
 returns-3 : tie.Need-returns-3
 returns-3 c =
-    enter-depth (unpacked (c .before .before .before .before)) (c .before .before .object .ensures .1) (c .before .if2 .left)
+    enter-depth (unpacked (c .before .before .before .before)) (c .before .before .object .ensures .1)
+    (c .before .if2 .left)
     (c .if3 .taken)
 
 -- What a release does.
 back : (c : tie.Else3) → let a = c .before .before .before .before .before .before .args in
     (0 < a .depth) × LockDepth (decodeAll (a .records .now)) (a .e + 1) (a .lock) (a .depth - 1)
 back c =
-    leave-depth (unpacked (c .before .before .before .before)) (c .before .before .object .ensures .1) (c .before .if2 .left)
+    leave-depth (unpacked (c .before .before .before .before)) (c .before .before .object .ensures .1)
+    (c .before .if2 .left)
     (omega (arith, c .before .before .before .if1 .left)) (c .if3 .left)
 
 sub-result : tie.Need-sub-result

@@ -12,10 +12,11 @@ use Rattle.pruning.proofs.nested_or.Statement.{statement}
 use Rattle.pruning.proofs.nested_or.Tie as tie
 
 -- The table has the event's held locks.
-holds : (s : tie.Start)
-    → getD (s .args .holding .now) (s .args .e) 0 ≡ held (decodeAll (s .args .records .now)) (s .args .e)
+holds : (s : tie.Start) → let a = s .args in
+    getD (a .holding .now) (a .e) 0 ≡ held (decodeAll (a .records .now)) (a .e)
 holds s =
-    s .pre .4 .at (s .args .e) (s .pre .0) (omega (arith, s .pre .1, decodeAll-length (s .args .records .now)))
+    s .pre .4 .at (s .args .e) (s .pre .0)
+    (omega (arith, s .pre .1, decodeAll-length (s .args .records .now)))
 
 mul-held : tie.Need-mul-held
 mul-held c = search needs

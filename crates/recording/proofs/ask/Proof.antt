@@ -17,7 +17,8 @@ start c = c .before .before .before .before .before .before
 -- The event's operation and object.
 unpacked : (c : tie.After-object)
     → Coming (decodeAll (start c .args .records .now)) (start c .args .e) (c .before .operation .result)
-    (c .object .result) (start c .args .holders .now) (start c .args .depths .now) (start c .args .writes .now)
+    (c .object .result) (start c .args .holders .now) (start c .args .depths .now)
+    (start c .args .writes .now)
 unpacked c = record {
   op-is = c .before .operation .ensures;
   object-is = c .object .ensures;
@@ -84,8 +85,14 @@ enter-requires c κs =
     let u = c .before .before .before .before .before .before in
     let s = start u in
     let small : object (decodeAll (s .args .records .now)) (s .args .e) < locks =
-    omega (arith, c .before .before .before .if4 .left, u .object .ensures) in
-    (s .pre .0, s .pre .1, s .pre .2, entering (unpacked u) (c .before .before .if5 .taken), small, s .pre .3 .holder)
+    omega (arith, c .before .before .before .if4 .left, u .object .ensures) in (
+      s .pre .0,
+      s .pre .1,
+      s .pre .2,
+      entering (unpacked u) (c .before .before .if5 .taken),
+      small,
+      s .pre .3 .holder,
+    )
 
 same-length-2 : tie.Need-same-length-2
 same-length-2 c = search needs
@@ -96,7 +103,8 @@ same-length-3 c = search needs
 returns-5 : tie.Need-returns-5
 returns-5 c =
     let k = c .before .before .before .before .before .before .before in
-    acquired (unpacked (k .before .before .before .before)) (k .if5 .taken) (k .before .if4 .left) _ _ _ (c .before .before .before .before .enter .ensures)
+    acquired (unpacked (k .before .before .before .before)) (k .if5 .taken) (k .before .if4 .left) _ _ _
+    (c .before .before .before .before .enter .ensures)
 
 leave-requires : tie.Need-leave-requires
 leave-requires c κs =
@@ -115,7 +123,8 @@ same-length-5 c = search needs
 returns-6 : tie.Need-returns-6
 returns-6 c =
     let k = c .before .before .before .before .before .before .before in
-    released (unpacked (k .before .before .before .before)) (release k) (k .before .if4 .left) _ _ _ (c .before .before .before .before .leave .ensures)
+    released (unpacked (k .before .before .before .before)) (release k) (k .before .if4 .left) _ _ _
+    (c .before .before .before .before .leave .ensures)
 
 pub ask-spec : {M : Type 1} → statement M
 ask-spec =

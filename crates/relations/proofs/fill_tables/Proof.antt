@@ -24,6 +24,16 @@ abbrev μ-loop : tie.MeasureT-loop
     depths locksets acquires e =
     length records / 2 + 1 - e
 
+-- From the loop's body to the entry,
+abbrev entry : tie.In-loop Inv-loop μ-loop → tie.Start Inv-loop μ-loop
+entry k = k .before .before .before .before .before .before .before .before .before .before
+
+-- and from where the event was noted to the body.
+abbrev body : tie.After-note-event Inv-loop μ-loop → tie.In-loop Inv-loop μ-loop
+body c =
+    c .before .before .before .before .before .before .before .before .before .before .before .before
+    .before
+
 loop-holds : tie.Need-loop-holds Inv-loop μ-loop
 loop-holds c =
     let s = c .before .before .before .before .before .before .before .before in (
@@ -57,25 +67,25 @@ slice-aggregate-note-event-5 c = search needs
 
 note-event-requires : tie.Need-note-event-requires Inv-loop μ-loop
 note-event-requires c κs =
-    let k = c .before .before .before .before .before .before .before .before .before .before .before .before .before in (
-      k .loop .inv .0,
-      search needs,
-      search needs,
-      k .before .before .before .before .before .before .before .before .before .pre .1,
-      k .loop .inv .2,
-    )
+    let k =
+    c .before .before .before .before .before .before .before .before .before .before .before .before in
+    (k .before .loop .inv .0, search needs, search needs, entry k .pre .1, k .before .loop .inv .2)
 
 add-e : tie.Need-add-e Inv-loop μ-loop
 add-e c =
-    let k = c .before .before .before .before .before .before .before .before .before .before .before .before .before .before .before .before .before .before .before .before .before .before .before .before .before .before .before .before .before .before .before .before .before in
-    omega (arith, k .loop .inv .1, k .before .before .before .before .before .before .before .before .before .pre .0)
+    let k = body (
+    c .before .before .before .before .before .before .before .before .before .before .before .before
+    .before .before .before .before .before .before .before) in
+    omega (arith, k .before .loop .inv .1, entry k .pre .0)
 
 loop-less : tie.Need-loop-less Inv-loop μ-loop
 loop-less c = search needs
 
 loop-again : tie.Need-loop-again Inv-loop μ-loop
 loop-again c =
-    let k = c .before .before .before .before .before .before .before .before .before .before .before .before .before .before .before .before .before .before .before in
+    let k =
+    c .before .before .before .before .before .before .before .before .before .before .before .before
+    .before .before .before .before .before .before .before in
     (search needs, search needs, k .note-event .ensures)
 
 same-length : tie.Need-same-length Inv-loop μ-loop

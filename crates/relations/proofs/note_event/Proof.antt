@@ -4,6 +4,24 @@ use borrow.Author.Needs.{needs}
 use Rattle.relations.proofs.note_event.Statement.{statement}
 use Rattle.relations.proofs.note_event.Tie as tie
 
+-- From where the record was noted to the entry,
+abbrev entry : tie.After-note-record → tie.Start
+entry c =
+    c .before .before .before .before .before .before .before .before .before .before .before .before
+    .before .before .before .before .before
+
+-- from the task to the record,
+abbrev noted-record : tie.After-note-task → tie.After-note-record
+noted-record c = c .before .before .before .before .before .before .before .before .before
+
+-- from the access to the task,
+abbrev noted-task : tie.After-note-access → tie.After-note-task
+noted-task c = c .before .before .before .before .before .before .before
+
+-- and from the locks to the access.
+abbrev noted-access : tie.After-note-locks → tie.After-note-access
+noted-access c = c .before .before .before .before .before .before .before .before .before .before
+
 note-record-requires : tie.Need-note-record-requires
 note-record-requires c κs = search needs
 
@@ -12,7 +30,7 @@ note-task-requires c κs = search needs
 
 note-access-requires : tie.Need-note-access-requires
 note-access-requires c κs =
-    let s = c .before .before .before .before .before .before .before .before .before .before .before .before .before .before .before .before .before .before .before .before .before .before .before .before .before .before .before .before .before .before .before .before in
+    let s = entry (noted-record (c .before .before .before .before .before .before)) in
     let z = s .pre .4 in (
       s .pre .0,
       s .pre .1,
@@ -25,7 +43,8 @@ note-access-requires c κs =
 
 note-locks-requires : tie.Need-note-locks-requires
 note-locks-requires c κs =
-    let s = c .before .before .before .before .before .before .before .before .before .before .before .before .before .before .before .before .before .before .before .before .before .before .before .before .before .before .before .before .before .before .before .before .before .before .before .before .before .before .before .before .before .before in
+    let accesses = c .before .before .before .before .before .before .before .before .before in
+    let s = entry (noted-record (noted-task accesses)) in
     let z = s .pre .4 in (
       s .pre .0,
       s .pre .1,
@@ -79,12 +98,11 @@ same-length-12 c = search needs
 
 returns : tie.Need-returns
 returns c =
-    let records = c .before .before .before .before .before .before .before .before .before .before .before .before .before .before .before .before .before .before .before .before .before .before .before .before .before .before .before .before .before .before .before .before .before .before .before .before in
-    let tasks = c .before .before .before .before .before .before .before .before .before .before .before .before .before .before .before .before .before .before .before .before .before .before .before .before .before .before .before in
-    let accesses = c .before .before .before .before .before .before .before .before .before .before .before .before .before .before .before .before .before .before .before .before in
     let locks = c .before .before .before .before .before .before .before .before .before .before in
-    let s = c .before .before .before .before .before .before .before .before .before .before .before .before .before .before .before .before .before .before .before .before .before .before .before .before .before .before .before .before .before .before .before .before .before .before .before .before .before .before .before .before .before .before .before .before .before .before .before .before .before .before .before .before .before in
-    let z = s .pre .4 .long in
+    let accesses = noted-access locks in
+    let tasks = noted-task accesses in
+    let records = noted-record tasks in
+    let z = entry records .pre .4 .long in
     record {
       long = record {
         operation-long = records .note-record .kept .1 .1 .0 ∙ z .operation-long;

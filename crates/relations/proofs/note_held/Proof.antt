@@ -1,10 +1,22 @@
 -- `relations::note_held` meets its contract: the event's task holds what its mask says. Assumes nothing.
 use native.Mathlib.Omega.{arith}
 use borrow.Author.Needs.{needs}
-use Rattle.model.specs.Trace.{object}
-use Rattle.relations.proofs.Laws.{lock-bound, held-noted, acquire-noted, release-noted, access-noted}
+use Rattle.model.specs.Recording.{decodeAll}
+use Rattle.laws.proofs.Trace.{record-event}
+use Rattle.laws.proofs.Questions.{events-sound}
+use Rattle.relations.proofs.Locks.{OfKind, lock-bound, held-noted, acquire-noted, release-noted}
+use Rattle.relations.proofs.Locks.{access-noted}
 use Rattle.relations.proofs.note_held.Statement.{statement}
 use Rattle.relations.proofs.note_held.Tie as tie
+
+-- The event with its kind.
+known : (s : tie.Start) → OfKind (decodeAll (s .args .records .now)) (s .args .e) (s .args .k)
+known s = record {
+  sound = events-sound (s .args .records .now) (s .pre .6);
+  event = record-event (s .args .records .now) (s .args .e) (s .pre .0, s .pre .1);
+  op-lt = s .pre .3;
+  kind-is = s .pre .4;
+}
 
 task-requires : tie.Need-task-requires
 task-requires c κs = search needs
@@ -32,13 +44,9 @@ cast-locksets c = search needs
 
 shl-locksets : tie.Need-shl-locksets
 shl-locksets c =
+    let is = c .before .if1 .taken in
     let s = c .before .before .before .before .before .before .before in
-    omega (
-      arith,
-      lock-bound (s .args .records .now) (s .pre .6) (s .args .e) (s .pre .0, s .pre .1) _
-          (s .pre .3, s .pre .4) (omega (arith, c .before .if1 .taken)) (omega (arith, c .before .if1 .taken)),
-      c .object .ensures,
-    )
+    omega (arith, lock-bound (known s) (omega arith) (omega arith), c .object .ensures)
 
 mul-locksets : tie.Need-mul-locksets
 mul-locksets c = search needs
@@ -55,14 +63,11 @@ same-length-2 c = search needs
 returns : tie.Need-returns
 returns c =
     let s = c .before .before .before .before .before .before .before in
-    let b = s .args .records .now in
     let is-task = c .before .before .before .task .ensures in (
-      held-noted b (s .pre .6) (s .args .e) (s .pre .0, s .pre .1) _ (s .pre .3, s .pre .4) _ is-task (s .args .locksets .now)
-          (s .pre .8) (s .args .holding .now) (s .pre .7) (search needs),
-      acquire-noted b (s .pre .6) (s .args .e) (s .pre .0, s .pre .1) _ (s .pre .3, s .pre .4) _ is-task
-          (s .args .locksets .now) (s .pre .8)
-          (c .before .if1 .taken)
-          _ (c .object .ensures),
+      held-noted (known s) is-task (s .args .locksets .now) (s .pre .8) (s .args .holding .now) (s .pre .7)
+          (search needs),
+      acquire-noted (known s) is-task (s .args .locksets .now) (s .pre .8) (c .before .if1 .taken)
+          (c .object .ensures),
     )
 
 object-requires-2 : tie.Need-object-requires-2
@@ -73,14 +78,9 @@ cast-locksets-2 c = search needs
 
 shl-locksets-2 : tie.Need-shl-locksets-2
 shl-locksets-2 c =
+    let is = c .before .if2 .taken in
     let s = c .before .before .before .before .before .before .before .before in
-    omega (
-      arith,
-      lock-bound (s .args .records .now) (s .pre .6) (s .args .e) (s .pre .0, s .pre .1) _
-          (s .pre .3, s .pre .4)
-          (omega (arith, c .before .if2 .taken)) (omega (arith, c .before .if2 .taken)),
-      c .object2 .ensures,
-    )
+    omega (arith, lock-bound (known s) (omega arith) (omega arith), c .object2 .ensures)
 
 mul-locksets-2 : tie.Need-mul-locksets-2
 mul-locksets-2 c = search needs
@@ -97,14 +97,11 @@ same-length-4 c = search needs
 returns-2 : tie.Need-returns-2
 returns-2 c =
     let s = c .before .before .before .before .before .before .before .before in
-    let b = s .args .records .now in
     let is-task = c .before .before .before .before .task .ensures in (
-      held-noted b (s .pre .6) (s .args .e) (s .pre .0, s .pre .1) _ (s .pre .3, s .pre .4) _ is-task (s .args .locksets .now)
-          (s .pre .8) (s .args .holding .now) (s .pre .7) (search needs),
-      release-noted b (s .pre .6) (s .args .e) (s .pre .0, s .pre .1) _ (s .pre .3, s .pre .4) _ is-task
-          (s .args .locksets .now) (s .pre .8)
-          (c .before .if2 .taken)
-          _ (c .object2 .ensures),
+      held-noted (known s) is-task (s .args .locksets .now) (s .pre .8) (s .args .holding .now) (s .pre .7)
+          (search needs),
+      release-noted (known s) is-task (s .args .locksets .now) (s .pre .8) (c .before .if2 .taken)
+          (c .object2 .ensures),
     )
 
 same-length-5 : tie.Need-same-length-5
@@ -113,13 +110,10 @@ same-length-5 c = search needs
 returns-3 : tie.Need-returns-3
 returns-3 c =
     let s = c .before .before .before .before .before .before .before in
-    let b = s .args .records .now in
     let is-task = c .before .before .before .task .ensures in (
-      held-noted b (s .pre .6) (s .args .e) (s .pre .0, s .pre .1) _ (s .pre .3, s .pre .4) _ is-task (s .args .locksets .now)
-          (s .pre .8) (s .args .holding .now) (s .pre .7) (search needs),
-      access-noted b (s .pre .6) (s .args .e) (s .pre .0, s .pre .1) _ (s .pre .3, s .pre .4) _ is-task
-          (s .args .locksets .now) (s .pre .8)
-          (c .before .if1 .left)
+      held-noted (known s) is-task (s .args .locksets .now) (s .pre .8) (s .args .holding .now) (s .pre .7)
+          (search needs),
+      access-noted (known s) is-task (s .args .locksets .now) (s .pre .8) (c .before .if1 .left)
           (c .if2 .left),
     )
 

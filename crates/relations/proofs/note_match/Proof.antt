@@ -1,12 +1,33 @@
--- `relations::note_match` meets its contract: a release and the latest acquire of its lock are each other's
--- match. Assumes nothing.
+-- `relations::note_match` meets its contract: an outer release and the latest outer acquire of its lock are
+-- each other's match. Assumes nothing.
+use Prim.Native.Nat.{_<_}
 use native.Mathlib.Omega.{arith}
 use borrow.Author.Needs.{needs}
-use Rattle.relations.proofs.Laws.{lock-bound, opened-bound, release-matched, no-release-matched}
-use Rattle.relations.proofs.Laws.{inner-marked}
-use Rattle.relations.proofs.Laws.{acquire-latest, no-acquire-latest}
+use lib.ListN.{getD}
+use Rattle.model.specs.Recording.{decodeAll}
+use Rattle.laws.proofs.Trace.{record-event}
+use Rattle.laws.proofs.Questions.{events-sound}
+use Rattle.relations.proofs.Locks.{OfKind, lock-bound, opened-bound, release-matched, acquire-latest}
+use Rattle.relations.proofs.Locks.{no-acquire-latest, inner-marked, no-release-matched}
 use Rattle.relations.proofs.note_match.Statement.{statement}
 use Rattle.relations.proofs.note_match.Tie as tie
+
+-- The event with its kind.
+known : (s : tie.Start) → OfKind (decodeAll (s .args .records .now)) (s .args .e) (s .args .k)
+known s = record {
+  sound = events-sound (s .args .records .now) (s .pre .7);
+  event = record-event (s .args .records .now) (s .args .e) (s .pre .0, s .pre .1);
+  op-lt = s .pre .3;
+  kind-is = s .pre .4;
+}
+
+-- The latest acquire of a release's lock is earlier.
+opened : (c : tie.Then1) → let a = c .before .before .before .before .before .args in
+    getD (a .acquires .now) (c .before .object .result) 0 < a .e
+opened c =
+    let s = c .before .before .before .before .before in
+    opened-bound (known s) (c .before .object .ensures) (s .args .acquires .now) (s .pre .6) (s .pre .9)
+    (c .if1 .taken)
 
 object-requires : tie.Need-object-requires
 object-requires c κs = search needs
@@ -19,50 +40,23 @@ mul-a c = search needs
 
 slice-read-a : tie.Need-slice-read-a
 slice-read-a c =
+    let is = c .before .if1 .taken in
     let s = c .before .before .before .before .before .before in
-    omega (
-      arith,
-      lock-bound (s .args .records .now) (s .pre .7) (s .args .e) (s .pre .0, s .pre .1) _
-          (s .pre .3, s .pre .4) (omega (arith, c .before .if1 .taken)) (omega (arith, c .before .if1 .taken)),
-      c .before .before .object .ensures,
-      s .pre .6,
-    )
+    let small = lock-bound (known s) (omega arith) (omega arith) in
+    omega (arith, c .before .before .object .ensures, s .pre .6)
 
 cast-at : tie.Need-cast-at
-cast-at c =
-    let s = c .before .before .before .before .before .before in
-    omega (
-      arith,
-      opened-bound (s .args .records .now) (s .pre .7) (s .args .e) (s .pre .0, s .pre .1) _
-          (s .pre .3, s .pre .4) _ (c .before .before .object .ensures)
-          (s .args .acquires .now) (s .pre .6) (s .pre .9) (c .before .if1 .taken),
-      s .pre .5,
-    )
+cast-at c = omega (arith, opened (c .before), c .before .before .before .before .before .before .pre .5)
 
 cast-matches : tie.Need-cast-matches
 cast-matches c = search needs
 
 mul-matches : tie.Need-mul-matches
-mul-matches c =
-    let s = c .before .before .before .before .before .before in
-    omega (
-      arith,
-      opened-bound (s .args .records .now) (s .pre .7) (s .args .e) (s .pre .0, s .pre .1) _
-          (s .pre .3, s .pre .4) _ (c .before .before .object .ensures)
-          (s .args .acquires .now) (s .pre .6) (s .pre .9) (c .before .if1 .taken),
-      s .pre .5,
-    )
+mul-matches c = omega (arith, opened (c .before), c .before .before .before .before .before .before .pre .5)
 
 slice-write-matches : tie.Need-slice-write-matches
 slice-write-matches c =
-    let s = c .before .before .before .before .before .before in
-    omega (
-      arith,
-      opened-bound (s .args .records .now) (s .pre .7) (s .args .e) (s .pre .0, s .pre .1) _
-          (s .pre .3, s .pre .4) _ (c .before .before .object .ensures)
-          (s .args .acquires .now) (s .pre .6) (s .pre .9) (c .before .if1 .taken),
-      s .pre .5,
-    )
+    omega (arith, opened (c .before), c .before .before .before .before .before .before .pre .5)
 
 mul-matches-2 : tie.Need-mul-matches-2
 mul-matches-2 c = search needs
@@ -75,15 +69,14 @@ same-length c = search needs
 
 returns : tie.Need-returns
 returns c =
-    let s = c .before .before .before .before .before .before in (
+    let s = c .before .before .before .before .before .before in
+    let is-object = c .before .before .object .ensures in (
       search needs,
-      release-matched (s .args .records .now) (s .pre .7) (s .args .e) (s .pre .0, s .pre .1) _
-          (s .pre .3, s .pre .4) _ (c .before .before .object .ensures)
-          (s .args .acquires .now) (s .pre .6) (s .pre .9) (c .before .if1 .taken)
+      release-matched (known s) is-object (s .args .acquires .now) (s .pre .6) (s .pre .9)
+          (c .before .if1 .taken)
           (s .args .matches .now) (s .pre .8) (search needs),
-      no-acquire-latest (s .args .records .now) (s .pre .7) (s .args .e) (s .pre .0, s .pre .1) _
-          (s .pre .3, s .pre .4) _ (c .before .before .object .ensures)
-          (s .args .acquires .now) (s .pre .6) (s .pre .9) (omega (arith, c .before .if1 .taken)),
+      no-acquire-latest (known s) is-object (s .args .acquires .now) (s .pre .6) (s .pre .9)
+          (omega (arith, c .before .if1 .taken)),
     )
 
 cast-matches-2 : tie.Need-cast-matches-2
@@ -100,15 +93,12 @@ same-length-2 c = search needs
 
 returns-2 : tie.Need-returns-2
 returns-2 c =
-    let s = c .before .before .before .before .before .before in (
+    let s = c .before .before .before .before .before .before in
+    let is-object = c .before .before .object .ensures in (
       search needs,
-      inner-marked (s .args .records .now) (s .pre .7) (s .args .e) (s .pre .0, s .pre .1) _
-          (s .pre .3, s .pre .4) _ (c .before .before .object .ensures)
-          (s .args .acquires .now) (s .pre .6) (s .pre .9) (c .if2 .taken)
-          (s .args .matches .now) (s .pre .8) (search needs),
-      no-acquire-latest (s .args .records .now) (s .pre .7) (s .args .e) (s .pre .0, s .pre .1) _
-          (s .pre .3, s .pre .4) _ (c .before .before .object .ensures)
-          (s .args .acquires .now) (s .pre .6) (s .pre .9) (omega (arith, c .if2 .taken)),
+      inner-marked (known s) (s .args .matches .now) (s .pre .8) (search needs) (c .if2 .taken),
+      no-acquire-latest (known s) is-object (s .args .acquires .now) (s .pre .6) (s .pre .9)
+          (omega (arith, c .if2 .taken)),
     )
 
 mul-matches-4 : tie.Need-mul-matches-4
@@ -125,14 +115,10 @@ mul-acquires c = search needs
 
 slice-write-acquires : tie.Need-slice-write-acquires
 slice-write-acquires c =
+    let is = c .if3 .taken in
     let s = c .before .before .before .before .before .before .before in
-    omega (
-      arith,
-      lock-bound (s .args .records .now) (s .pre .7) (s .args .e) (s .pre .0, s .pre .1) _
-          (s .pre .3, s .pre .4) (omega (arith, c .if3 .taken)) (omega (arith, c .if3 .taken)),
-      c .before .before .before .object .ensures,
-      s .pre .6,
-    )
+    let small = lock-bound (known s) (omega arith) (omega arith) in
+    omega (arith, c .before .before .before .object .ensures, s .pre .6)
 
 same-length-3 : tie.Need-same-length-3
 same-length-3 c = search needs
@@ -142,15 +128,13 @@ same-length-4 c = search needs
 
 returns-3 : tie.Need-returns-3
 returns-3 c =
-    let s = c .before .before .before .before .before .before .before in (
+    let s = c .before .before .before .before .before .before .before in
+    let is-object = c .before .before .before .object .ensures in (
       search needs,
-      no-release-matched (s .args .records .now) (s .pre .7) (s .args .e) (s .pre .0, s .pre .1) _
-          (s .pre .3, s .pre .4) _ (c .before .before .before .object .ensures)
-          (s .args .acquires .now) (s .pre .6) (s .pre .9) (c .before .before .if1 .left)
-          (c .before .if2 .left) (s .args .matches .now) (s .pre .8) (search needs),
-      acquire-latest (s .args .records .now) (s .pre .7) (s .args .e) (s .pre .0, s .pre .1) _
-          (s .pre .3, s .pre .4) _ (c .before .before .before .object .ensures)
-          (s .args .acquires .now) (s .pre .6) (s .pre .9) (c .if3 .taken),
+      no-release-matched (known s) (s .args .matches .now) (s .pre .8) (search needs)
+          (c .before .before .if1 .left)
+          (c .before .if2 .left),
+      acquire-latest (known s) is-object (s .args .acquires .now) (s .pre .6) (s .pre .9) (c .if3 .taken),
     )
 
 same-length-5 : tie.Need-same-length-5
@@ -158,15 +142,13 @@ same-length-5 c = search needs
 
 returns-4 : tie.Need-returns-4
 returns-4 c =
-    let s = c .before .before .before .before .before .before .before in (
+    let s = c .before .before .before .before .before .before .before in
+    let is-object = c .before .before .before .object .ensures in (
       search needs,
-      no-release-matched (s .args .records .now) (s .pre .7) (s .args .e) (s .pre .0, s .pre .1) _
-          (s .pre .3, s .pre .4) _ (c .before .before .before .object .ensures)
-          (s .args .acquires .now) (s .pre .6) (s .pre .9) (c .before .before .if1 .left)
-          (c .before .if2 .left) (s .args .matches .now) (s .pre .8) (search needs),
-      no-acquire-latest (s .args .records .now) (s .pre .7) (s .args .e) (s .pre .0, s .pre .1) _
-          (s .pre .3, s .pre .4) _ (c .before .before .before .object .ensures)
-          (s .args .acquires .now) (s .pre .6) (s .pre .9) (c .if3 .left),
+      no-release-matched (known s) (s .args .matches .now) (s .pre .8) (search needs)
+          (c .before .before .if1 .left)
+          (c .before .if2 .left),
+      no-acquire-latest (known s) is-object (s .args .acquires .now) (s .pre .6) (s .pre .9) (c .if3 .left),
     )
 
 pub note-match-spec : {M : Type 1} → statement M
