@@ -1,4 +1,4 @@
--- Locks that their holder takes again: for each clause of 02's job 9 a recording that shows it. One record of
+-- Locks that their holder takes again: for each clause of request 9 a recording that shows it. One record of
 -- facts and one proof, by computation. Row J, which is such a recording, is in Rows.
 use Prim.Native.Nat.{ℕ}
 use mathlib.Core.Path.{_≡_, refl}
