@@ -1,86 +1,93 @@
 -- What visiting an event leaves, by its operation and the latest acquire of its lock, and what it reads.
 -- Assumes nothing.
 use Prim.Native.Nat.{ℕ, _*_, _≤_, min}
-use mathlib.Core.Path.{_≡_, refl, _∙_}
-use mathlib.Core.Bool.{true, false}
+use mathlib.Core.Path.{_≡_, refl, sym, _∙_}
+use mathlib.Core.Bool.{true, false, true≢false}
 use mathlib.Core.Logic.{_≢_}
 use mathlib.Core.List.{List}
 use native.Mathlib.Omega.{arith}
 use lib.ListN.{length, getD}
-use borrow.Author.Tests.{eq-eqb, ne-eqb}
+use borrow.Author.Tests.{eq-eqb, ne-eqb, eqb-true}
 use Rattle.model.specs.Trace.{Trace, at, task, object, isRead, isAcquire}
 use Rattle.model.specs.Relations.{writer}
-use Rattle.laws.specs.EventKinds.{marked}
-use Rattle.laws.proofs.Marks.{isAcquire-marked}
 use Rattle.model.specs.Recording.{decodeAll}
+use Rattle.laws.specs.EventKinds.{marked}
 use Rattle.laws.specs.Frontier.{raised}
+use Rattle.laws.proofs.Tests.{decided}
 use Rattle.laws.proofs.Relations.{writer-below}
 use Rattle.laws.proofs.Faults.{isRead-op, isAcquire-none}
+use Rattle.laws.proofs.Marks.{Marked, marked-outer}
 use Rattle.frontier.specs.Visit.{wantedWriter, wantedEarlier, latestWith, wantedWith}
 
--- ---- by the operation
+-- ---- by what the event is
 
 -- The lists that a visit leaves.
 abbrev pub Leaves : Trace → ℕ → List ℕ → List ℕ → List ℕ → List ℕ → Type 0
 Leaves σ f want latest want′ latest′ =
     (want′ ≡ wantedWith σ want latest f) × (latest′ ≡ latestWith σ latest f)
 
-module _ (σ : Trace) (f : ℕ) (want latest : List ℕ) where
-  -- A read wants its writer.
-  pub read-leaves : isRead σ f ≡ true → isAcquire σ f ≡ false → {want′ : List ℕ}
-      → want′ ≡ wantedWriter σ want f → Leaves σ f want latest want′ latest
-  unfolding wantedWith latestWith
-  read-leaves r a w = rw (r, a) (w, refl)
+module _ (σ : Trace) (f : ℕ) where
+  -- A read is no acquire,
+  read-alone : isRead σ f ≡ true → isAcquire σ f ≡ false
+  read-alone r =
+      let none : at σ f .op ≡ 0 = eqb-true (at σ f .op) 0 (sym (isRead-op σ f refl) ∙ r) in
+      isAcquire-none σ f refl (omega arith)
 
-  -- An outer acquire is noted, and the match of the earlier one is wanted.
-  pub acquire-leaves : isRead σ f ≡ false → isAcquire σ f ≡ true → {want′ latest′ : List ℕ}
+  -- and an acquire no read.
+  pub acquire-alone : isAcquire σ f ≡ true → isRead σ f ≡ false
+  acquire-alone a = decided (isRead σ f) (λ r. absurd (true≢false (sym a ∙ read-alone r))) (λ n. n)
+
+  module _ (want latest : List ℕ) where
+    -- A read wants its writer.
+    pub read-leaves : isRead σ f ≡ true → {want′ : List ℕ} → want′ ≡ wantedWriter σ want f
+        → Leaves σ f want latest want′ latest
+    unfolding wantedWith latestWith
+    read-leaves r w = rw (r, read-alone r) (w, refl)
+
+    -- An outer acquire is noted, and the match of the earlier one is wanted.
+    pub acquire-leaves : isAcquire σ f ≡ true → {want′ latest′ : List ℕ}
+        → (want′ ≡ wantedEarlier σ want (getD latest (object σ f) 0) f)
+        × (latest′ ≡ raised latest (object σ f) f)
+        → Leaves σ f want latest want′ latest′
+    unfolding wantedWith latestWith
+    acquire-leaves a q = rw (acquire-alone a, a) q
+
+    -- Another event changes nothing.
+    pub other-leaves : isRead σ f ≡ false → isAcquire σ f ≡ false → Leaves σ f want latest want latest
+    unfolding wantedWith latestWith
+    other-leaves r a = rw (r, a) (refl, refl)
+
+-- ---- by the operation and the mark
+
+module _ {σ : Trace} {f op m : ℕ} (k : Marked σ f op m) (want latest : List ℕ) where
+  -- A read by its operation wants its writer.
+  pub read-visited : op ≡ 0 → {want′ : List ℕ} → want′ ≡ wantedWriter σ want f
+      → Leaves σ f want latest want′ latest
+  read-visited a w = read-leaves σ f want latest (isRead-op σ f (k .op-is) ∙ eq-eqb op 0 a) w
+
+  -- An outer acquire by its operation and mark is noted, and the match of the earlier one is wanted.
+  pub acquire-visited : op ≡ 2 → m ≢ f → {want′ latest′ : List ℕ}
       → (want′ ≡ wantedEarlier σ want (getD latest (object σ f) 0) f)
       × (latest′ ≡ raised latest (object σ f) f)
       → Leaves σ f want latest want′ latest′
-  unfolding wantedWith latestWith
-  acquire-leaves r a q = rw (r, a) q
+  acquire-visited a d q = acquire-leaves σ f want latest (marked-outer k a d) q
 
-  -- Another event changes nothing.
-  pub neither : isRead σ f ≡ false → isAcquire σ f ≡ false → Leaves σ f want latest want latest
-  unfolding wantedWith latestWith
-  neither r a = rw (r, a) (refl, refl)
-
-module _ (σ : Trace) (f : ℕ) (event : 1 ≤ f) {op m : ℕ} (is-op : op ≡ at σ f .op) (is-match : m ≡ marked σ f)
-  where
-    -- A read by its operation,
-    pub by-read : op ≡ 0 → (isRead σ f ≡ true) × (isAcquire σ f ≡ false)
-    by-read a = (isRead-op σ f is-op ∙ eq-eqb op 0 a, isAcquire-none σ f is-op (omega arith))
-
-    -- what is no read and no acquire,
-    pub by-other : op ≢ 0 → op ≢ 2 → (isRead σ f ≡ false) × (isAcquire σ f ≡ false)
-    by-other a b = (isRead-op σ f is-op ∙ ne-eqb op 0 a, isAcquire-none σ f is-op b)
-
-    -- an inner acquire,
-    pub by-inner : op ≡ 2 → m ≡ f → (isRead σ f ≡ false) × (isAcquire σ f ≡ false)
-    by-inner a b = (
-      isRead-op σ f is-op ∙ ne-eqb op 0 (omega arith),
-      isAcquire-marked σ f op is-op event ∙ rw (← is-match, eq-eqb op 2 a, eq-eqb m f b),
-    )
-
-    -- and an outer one.
-    pub by-outer : op ≡ 2 → m ≢ f → (isRead σ f ≡ false) × (isAcquire σ f ≡ true)
-    by-outer a b = (
-      isRead-op σ f is-op ∙ ne-eqb op 0 (omega arith),
-      isAcquire-marked σ f op is-op event ∙ rw (← is-match, eq-eqb op 2 a, ne-eqb m f b),
-    )
+  -- What is no read by its operation, and no outer acquire, changes nothing.
+  pub other-visited : op ≢ 0 → isAcquire σ f ≡ false → Leaves σ f want latest want latest
+  other-visited d n = other-leaves σ f want latest (isRead-op σ f (k .op-is) ∙ ne-eqb op 0 d) n
 
 -- ---- the writer of a read
 
 module _ (σ : Trace) (want : List ℕ) (f : ℕ) {w : ℕ} (q : w ≡ writer σ f) where
   -- Without a writer nothing more is wanted.
-  pub writer-none : w ≡ 0 → wantedWriter σ want f ≡ want
+  pub wantedWriter-none : w ≡ 0 → wantedWriter σ want f ≡ want
   unfolding wantedWriter
-  writer-none n = rw (← q, n)
+  wantedWriter-none n = rw (← q, n)
 
   -- The writer is wanted of its task.
-  pub writer-some : w ≢ 0 → wantedWriter σ want f ≡ raised want (task σ w) w
+  pub wantedWriter-some : w ≢ 0 → wantedWriter σ want f ≡ raised want (task σ w) w
   unfolding wantedWriter
-  writer-some d = rw (← q, ne-eqb w 0 d)
+  wantedWriter-some d = rw (← q, ne-eqb w 0 d)
 
 -- A writer is an earlier event.
 pub writer-in : (b : List ℕ) (f : ℕ) → (1 ≤ f) × (2 * f ≤ length b) → (w : ℕ) → w ≡ writer (decodeAll b) f
@@ -91,12 +98,12 @@ writer-in b f inside w q = omega (arith, writer-below (decodeAll b) f, inside)
 
 module _ (σ : Trace) (want : List ℕ) (top f : ℕ) where
   -- With no acquire before, nothing more is wanted.
-  pub earlier-none : top ≡ 0 → wantedEarlier σ want top f ≡ want
+  pub wantedEarlier-none : top ≡ 0 → wantedEarlier σ want top f ≡ want
   unfolding wantedEarlier
-  earlier-none n = rw (eq-eqb top 0 n)
+  wantedEarlier-none n = rw (eq-eqb top 0 n)
 
   -- The match of the earlier one is wanted.
-  pub earlier-some : top ≢ 0 → {e : ℕ} → e ≡ min top f
+  pub wantedEarlier-some : top ≢ 0 → {e : ℕ} → e ≡ min top f
       → wantedEarlier σ want top f ≡ raised want (task σ e) (marked σ e)
   unfolding wantedEarlier
-  earlier-some d q = rw (ne-eqb top 0 d, q)
+  wantedEarlier-some d q = rw (ne-eqb top 0 d, q)

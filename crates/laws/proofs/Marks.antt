@@ -1,7 +1,8 @@
 -- The marks of inner acquires and releases among the matches, by which they are told from outer ones. How the
 -- table of matches is filled is in Matches. Assumes nothing.
 use Prim.Native.Nat.{ℕ, _-_, _≤_}
-use mathlib.Core.Path.{_≡_, refl, sym}
+use mathlib.Core.Path.{_≡_, refl, sym, _∙_}
+use mathlib.Core.Logic.{_≢_}
 use mathlib.Core.Bool.{true, false, cond, not, _&&_}
 use lib.Dec.{T, eqb}
 use lib.ListN.{length}
@@ -62,3 +63,22 @@ module _ (σ : Trace) where
   unfolding marked
   marked-le e h =
       cond-elim (λ m. m ≤ length σ) (isInner σ e) e (matching σ e) (λ _. h) (λ _. matching-le σ e h)
+
+-- ---- an event as the code has read it
+
+-- An event with its operation and its mark.
+pub record Marked (σ : Trace) (e op m : ℕ) : Type 0 where
+  pub event : 1 ≤ e
+  pub op-is : op ≡ at σ e .op
+  pub mark-is : m ≡ marked σ e
+
+module _ {σ : Trace} {e op m : ℕ} (k : Marked σ e op m) where
+  -- An acquire that is marked by its own number is no outer one,
+  pub marked-inner : op ≡ 2 → m ≡ e → isAcquire σ e ≡ false
+  marked-inner a y =
+      isAcquire-marked σ e op (k .op-is) (k .event) ∙ rw (← (k .mark-is), eq-eqb op 2 a, eq-eqb m e y)
+
+  -- and any other acquire is one.
+  pub marked-outer : op ≡ 2 → m ≢ e → isAcquire σ e ≡ true
+  marked-outer a d =
+      isAcquire-marked σ e op (k .op-is) (k .event) ∙ rw (← (k .mark-is), eq-eqb op 2 a, ne-eqb m e d)

@@ -5,7 +5,7 @@ use mathlib.Core.Path.{sym, _∙_}
 use native.Mathlib.Omega.{arith}
 use borrow.Author.Needs.{needs}
 use Rattle.laws.proofs.Trace.{decodeAll-length}
-use Rattle.frontier.proofs.Leaves.{earlier-none, earlier-some}
+use Rattle.frontier.proofs.Leaves.{wantedEarlier-none, wantedEarlier-some}
 use Rattle.frontier.proofs.visit_acquire.Statement.{statement}
 use Rattle.frontier.proofs.visit_acquire.Tie as tie
 
@@ -30,7 +30,7 @@ same-length c = search needs
 returns : tie.Need-returns
 returns c =
     rw (← (c .before .before .before .before .before .before .object .ensures .1))
-    (sym (earlier-none _ _ _ _ (c .if1 .taken)), c .before .before .before .raise .ensures)
+    (sym (wantedEarlier-none _ _ _ _ (c .if1 .taken)), c .before .before .before .raise .ensures)
 
 earlier-requires : tie.Need-earlier-requires
 earlier-requires c κs = search needs
@@ -59,7 +59,7 @@ returns-2 c =
     let b = c .before .before .before .before .before in
     rw (← (b .before .before .before .before .before .before .object .ensures .1)) (
       c .before .before .want-match .ensures
-          ∙ sym (earlier-some _ _ _ _ (b .if1 .left) (c .before .before .before .earlier .ensures)),
+          ∙ sym (wantedEarlier-some _ _ _ _ (b .if1 .left) (c .before .before .before .earlier .ensures)),
       b .before .before .before .raise .ensures,
     )
 

@@ -2,7 +2,7 @@
 use mathlib.Core.Path.{sym}
 use native.Mathlib.Omega.{arith}
 use borrow.Author.Needs.{needs}
-use Rattle.frontier.proofs.Leaves.{writer-none, writer-some, writer-in}
+use Rattle.frontier.proofs.Leaves.{wantedWriter-none, wantedWriter-some, writer-in}
 use Rattle.frontier.proofs.visit_read.Statement.{statement}
 use Rattle.frontier.proofs.visit_read.Tie as tie
 
@@ -15,7 +15,7 @@ shared-slice-read-w c = search needs
 returns : tie.Need-returns
 returns c =
     let s = c .before .before .before .before .before in
-    sym (writer-none _ _ _ (s .pre .3) (c .if1 .taken))
+    sym (wantedWriter-none _ _ _ (s .pre .3) (c .if1 .taken))
 
 cast-task : tie.Need-cast-task
 cast-task c =
@@ -42,7 +42,7 @@ returns-2 : tie.Need-returns-2
 returns-2 c =
     let s = c .before .before .before .before .before .before .before .before .before .before in
     let b = c .before .before .before .before .before in
-    rw (writer-some _ _ _ (s .pre .3) (b .if1 .left), ← (c .before .before .before .task .ensures .1))
+    rw (wantedWriter-some _ _ _ (s .pre .3) (b .if1 .left), ← (c .before .before .before .task .ensures .1))
     (c .before .before .raise .ensures)
 
 pub visit-read-spec : {M : Type 1} → statement M
