@@ -8,21 +8,18 @@ use native.Mathlib.Omega.{arith}
 use lib.Dec.{eqb, leb}
 use lib.ListN.{length, getD}
 use borrow.Author.Tests.{eq-eqb, ne-eqb, le-leb, lt-leb}
-use Rattle.model.specs.Trace.{Trace, tasks, variables, at, task, object}
+use Rattle.model.specs.Trace.{Trace, tasks, variables, task, object, isRead, isAcquire}
 use Rattle.model.specs.Relations.{predecessor, writer}
 use Rattle.model.specs.Recording.{decodeAll}
 use Rattle.model.specs.Schedule.{mayFollow}
-use Rattle.model.specs.Calls.Check.{checkEvents}
-use Rattle.laws.proofs.Trace.{decodeAll-length}
 use Rattle.laws.specs.EventKinds.{marked}
-use Rattle.laws.proofs.Marks.{marked-le, isAcquire-marked}
+use Rattle.laws.proofs.Trace.{decodeAll-length}
 use Rattle.laws.proofs.Faults.{isRead-op, isAcquire-none}
-use Rattle.laws.proofs.Questions.{events-sound}
+use Rattle.laws.proofs.Marks.{Marked, marked-le, marked-outer}
+use Rattle.laws.proofs.WellFormed.{WellFormed, acquire-lock}
 use Rattle.schedule.specs.Listed.{Listed}
 use Rattle.schedule.specs.Next.{isListed, isNext, isUnlocked}
-use Rattle.laws.proofs.WellFormed.{acquire-lock}
-use Rattle.schedule.proofs.Laws.{no-event, not-next, read-follows, acquire-follows}
-use Rattle.schedule.proofs.Laws.{other-follows}
+use Rattle.schedule.proofs.Laws.{no-event, not-next, read-follows, acquire-follows, other-follows}
 
 -- ---- one table
 
@@ -86,54 +83,44 @@ pub asked-none : (b last acquires writes : List ℕ) (e : ℕ) → ((1 ≤ e) ×
 asked-none b last acquires writes e n before z =
     no-event (decodeAll b) before e (λ h. n (omega (arith, decodeAll-length b)))
 
--- Other numbers are those of the events.
-pub event-in : (b : List ℕ) (e : ℕ) → (1 ≤ e) × (e ≤ length b / 2) → (1 ≤ e) × (e ≤ length (decodeAll b))
-event-in b e h = omega (arith, decodeAll-length b)
+-- An event that is not next may not follow.
+pub asked-later : (σ : Trace) → WellFormed σ → (last acquires writes : List ℕ) (e : ℕ)
+    → (1 ≤ e) × (e ≤ length σ) → isNext σ last e ≡ false → Answers σ last acquires writes e false
+asked-later σ ok last acquires writes e inside n before z =
+    not-next σ before last acquires writes z e inside (ok .task-lt e (inside .0) (inside .1)) n
 
-module _ (b : List ℕ) (accepted : checkEvents (decodeAll b) .refusal ≡ 0) (last acquires writes : List ℕ)
-    (e : ℕ) (within : (1 ≤ e) × (e ≤ length b / 2)) where
-  inside : (1 ≤ e) × (e ≤ length (decodeAll b))
-  inside = event-in b e within
+-- An event that is next, with its operation and mark as the code has read them.
+pub record Asked (σ : Trace) (last : List ℕ) (e op m : ℕ) : Type 0 where
+  pub sound : WellFormed σ
+  pub inside : (1 ≤ e) × (e ≤ length σ)
+  pub next : isNext σ last e ≡ true
+  pub mark : Marked σ e op m
 
-  small : task (decodeAll b) e < tasks
-  small = events-sound b accepted .task-lt e (inside .0) (inside .1)
+module _ {σ : Trace} {last : List ℕ} {e op m : ℕ} (k : Asked σ last e op m) (acquires writes : List ℕ) where
+  small : task σ e < tasks
+  small = k .sound .task-lt e (k .inside .0) (k .inside .1)
 
-  -- An event that does not come next in its task.
-  pub asked-later : isNext (decodeAll b) last e ≡ false → Answers (decodeAll b) last acquires writes e false
-  asked-later n before z = not-next (decodeAll b) before last acquires writes z e inside small n
+  unread : op ≢ 0 → isRead σ e ≡ false
+  unread d = isRead-op σ e (k .mark .op-is) ∙ ne-eqb op 0 d
 
-  module _ (n : isNext (decodeAll b) last e ≡ true) (op : ℕ) (is-op : op ≡ at (decodeAll b) e .op) where
-    -- A read.
-    pub asked-read : op ≡ 0 → (o w : ℕ) → (o < variables) × (o ≡ object (decodeAll b) e)
-        → w ≡ writer (decodeAll b) e
-        → Answers (decodeAll b) last acquires writes e (eqb (getD writes o 0) w)
-    asked-read r o w is-object is-writer before z =
-        rw (is-object .1, is-writer)
-        (read-follows (decodeAll b) before last acquires writes z e inside small n
-        (isRead-op (decodeAll b) e is-op ∙ eq-eqb op 0 r)
-        (isAcquire-none (decodeAll b) e is-op (omega arith)) (omega arith))
+  -- A read may follow where the last listed write of its variable is its writer,
+  pub asked-read : op ≡ 0 → (o w : ℕ) → (o < variables) × (o ≡ object σ e) → w ≡ writer σ e
+      → Answers σ last acquires writes e (eqb (getD writes o 0) w)
+  asked-read r o w is-object is-writer before z =
+      rw (is-object .1, is-writer)
+      (read-follows σ before last acquires writes z e (k .inside) small (k .next)
+      (isRead-op σ e (k .mark .op-is) ∙ eq-eqb op 0 r)
+      (isAcquire-none σ e (k .mark .op-is) (omega arith)) (omega arith))
 
-    -- A write or a release.
-    pub asked-other : op ≢ 0 → op ≢ 2 → Answers (decodeAll b) last acquires writes e true
-    asked-other r a before z =
-        other-follows (decodeAll b) before last acquires writes z e inside small n
-        (isRead-op (decodeAll b) e is-op ∙ ne-eqb op 0 r) (isAcquire-none (decodeAll b) e is-op a)
+  -- an outer acquire where its lock is clear,
+  pub asked-acquire : op ≡ 2 → m ≢ e → (r : Bool) → r ≡ isUnlocked σ last acquires e
+      → Answers σ last acquires writes e r
+  asked-acquire a d r is before z =
+      is ∙ acquire-follows σ before last acquires writes z e (k .inside) small (k .next)
+      (unread (omega arith)) (marked-outer (k .mark) a d)
+      (acquire-lock σ (k .sound) e op (k .mark .op-is) a)
 
-    -- An inner acquire, which is marked.
-    pub asked-inner : op ≡ 2 → (m : ℕ) → m ≡ marked (decodeAll b) e → m ≡ e
-        → Answers (decodeAll b) last acquires writes e true
-    asked-inner a m is-match y before z =
-        other-follows (decodeAll b) before last acquires writes z e inside small n
-        (isRead-op (decodeAll b) e is-op ∙ ne-eqb op 0 (omega arith))
-        (isAcquire-marked (decodeAll b) e op is-op (inside .0)
-        ∙ rw (← is-match, eq-eqb op 2 a, eq-eqb m e y))
-
-    -- An outer one.
-    pub asked-acquire : op ≡ 2 → (m : ℕ) → m ≡ marked (decodeAll b) e → m ≢ e → (r : Bool) → r ≡ isUnlocked (decodeAll b) last acquires e
-        → Answers (decodeAll b) last acquires writes e r
-    asked-acquire a m is-match y r is before z =
-        is ∙ acquire-follows (decodeAll b) before last acquires writes z e inside small n
-        (isRead-op (decodeAll b) e is-op ∙ ne-eqb op 0 (omega arith))
-        (isAcquire-marked (decodeAll b) e op is-op (inside .0)
-        ∙ rw (← is-match, eq-eqb op 2 a, ne-eqb m e y))
-        (acquire-lock (decodeAll b) (events-sound b accepted) e op is-op a)
+  -- and another event always.
+  pub asked-other : op ≢ 0 → isAcquire σ e ≡ false → Answers σ last acquires writes e true
+  asked-other d n before z =
+      other-follows σ before last acquires writes z e (k .inside) small (k .next) (unread d) n

@@ -12,14 +12,14 @@ use borrow.Author.Tests.{eq-eqb, ne-eqb, le-leb, lt-leb}
 use Rattle.model.specs.Trace.{Trace, tasks, locks, variables, at, task, object, isRead, isAcquire, sameObject}
 use Rattle.model.specs.Relations.{predecessor, writer, matching}
 use Rattle.model.specs.Schedule.{latestWrite, mayFollow, enabled}
-use Rattle.laws.proofs.Tests.{parts, and-i, T-ext, is-true, is-false, eq→eqb, equal?, at-most?}
+use Rattle.laws.specs.EventKinds.{marked}
+use Rattle.laws.proofs.Tests.{parts, and-l, and-i, T-ext, is-true, is-false, eq→eqb, equal?, at-most?}
 use Rattle.laws.proofs.Lists.{member-iff}
 use Rattle.laws.proofs.Trace.{isEvent-iff, sameTask-iff, sameObject-iff}
 use Rattle.laws.proofs.Relations.{predecessor-latest, predecessor-below, matching-below}
+use Rattle.laws.proofs.Marks.{marked-acquire}
 use Rattle.laws.proofs.Schedule.{Prior, mayFollow-iff, enabled-iff}
 use Rattle.schedule.specs.Listed.{UpTo, Acquired, Listed}
-use Rattle.laws.specs.EventKinds.{marked}
-use Rattle.laws.proofs.Marks.{marked-acquire}
 use Rattle.schedule.specs.Next.{isListed, isNext, isUnlocked}
 
 -- ---- one task
@@ -119,18 +119,25 @@ module _ (σ : Trace) (before last acquires : List ℕ) (u : UpTo σ before last
   others f m t d =
       z .matched f m (search parts) (rw (sameObject-iff σ e f .0 (search parts)) at d)
 
+  listed-top : top ≢ 0 → List·Memᴰ top before × T (isAcquire σ top && sameObject σ e top)
+  listed-top d =
+      let (m, t, o) = z .listed (object σ e) l d in
+      (m, and-i (isAcquire σ top) _ t (sameObject-iff σ e top .1 (sym o)))
+
+  match-iff : T (isAcquire σ top) → T (isListed σ last (marked σ top)) ↔ List·Memᴰ (matching σ top) before
+  match-iff t =
+      rw (marked-acquire σ top t) (isListed-iff σ before last u (matching σ top) (matching-below σ top t))
+
   -- The latest listed acquire of the lock stands for all: the others have their matches listed.
   clear-latest : top ≢ 0 → top < e → T (isListed σ last (marked σ top)) ↔ Clear σ before e
   clear-latest d b =
-      let (m, t, o) = z .listed (object σ e) l d in
-      let rule = rw (← (marked-acquire σ top t)) at
-      (isListed-iff σ before last u (matching σ top) (matching-below σ top t)) in (
+      let (m, t) = listed-top d in
+      let rule = match-iff (and-l (isAcquire σ top) _ t) in (
         λ h f n s. (
-          ⊎-elim (λ (q : f ≡ top). rw (q, ← (marked-acquire σ top t)) (rule .0 h)) (others f n s) (equal? f top),
+          ⊎-elim (λ (q : f ≡ top). rw q (rule .0 h)) (others f n s) (equal? f top),
           omega (arith, at-most f n s),
         ),
-        λ each. rule .1 (rw (← (marked-acquire σ top t)) at
-            (each top m (and-i (isAcquire σ top) _ t (sameObject-iff σ e top .1 (sym o))) .0)),
+        λ each. rule .1 (each top m t .0),
       )
 
   -- An acquire's lock is clear, as the tables tell.
@@ -145,12 +152,9 @@ module _ (σ : Trace) (before last acquires : List ℕ) (u : UpTo σ before last
 
       some : top ≢ 0 → T (isUnlocked σ last acquires e) ↔ Clear σ before e
       some d =
-          let (m, t, o) = z .listed (object σ e) l d in
+          let (m, t) = listed-top d in
           rw (ne-eqb top 0 d) (⊎-elim
-          (λ (b : e ≤ top).
-          let both : T (isAcquire σ top && sameObject σ e top) =
-          and-i (isAcquire σ top) _ t (sameObject-iff σ e top .1 (sym o)) in
-          rw (le-leb e top b) (λ h. absurd h, λ each. omega (arith, each top m both)))
+          (λ (b : e ≤ top). rw (le-leb e top b) (λ h. absurd h, λ each. omega (arith, each top m t)))
           (λ (b : top < e). rw (lt-leb e top b) (clear-latest d b))
           (at-most? e top))
 

@@ -21,8 +21,7 @@ use Rattle.laws.proofs.Lists.{member-iff, zeros}
 use Rattle.laws.proofs.Trace.{Unpacked, isEvent-iff, sameTask-iff, sameObject-iff}
 use Rattle.laws.proofs.WellFormed.{WellFormed, acquire-lock}
 use Rattle.laws.proofs.Faults.{isWrite-op, isAcquire-none}
-use Rattle.laws.specs.EventKinds.{marked}
-use Rattle.laws.proofs.Marks.{isAcquire-marked}
+use Rattle.laws.proofs.Marks.{Marked, marked-outer}
 use Rattle.laws.proofs.Schedule.{MayFollow, mayFollow-iff}
 use Rattle.schedule.specs.Listed.{UpTo, Acquired, Written, Listed}
 use Rattle.schedule.proofs.Laws.{listed-iff, Clear}
@@ -184,57 +183,59 @@ module _ (σ : Trace) (before writes : List ℕ) (z : Written σ before writes) 
 
 -- ---- the three tables
 
-module _ (σ : Trace) (ok : WellFormed σ) {e op t o : ℕ} (u : Unpacked σ e op t o)
-    (before last acquires writes : List ℕ) (z : Listed σ before last acquires writes)
-    (may : T (mayFollow σ before e)) where
-  follows : MayFollow σ before e
-  follows = mayFollow-iff σ before e .0 may
+-- Listing event e brings the tables from the first three to the last three, whatever is listed.
+abbrev pub Notes : Trace → ℕ → List ℕ → List ℕ → List ℕ → List ℕ → List ℕ → List ℕ → Type 0
+Notes σ e last acquires writes last′ acquires′ writes′ =
+    (before : List ℕ) → Listed σ before last acquires writes → T (mayFollow σ before e)
+    → Listed σ (e ∷ before) last′ acquires′ writes′
 
-  latest : UpTo σ (e ∷ before) (set last t e)
-  latest =
-      rw (u .task-is .1) (up-to-next σ before last (z .up-to) e follows (omega (arith, u .task-is)))
+-- An event as the code has unpacked it, with its mark.
+pub record Noted (σ : Trace) (e op t o m : ℕ) : Type 0 where
+  pub sound : WellFormed σ
+  pub event : Unpacked σ e op t o
+  pub mark : Marked σ e op m
+
+module _ {σ : Trace} {e op t o m : ℕ} (k : Noted σ e op t o m) (last acquires writes : List ℕ) where
+  latest : (before : List ℕ) → Listed σ before last acquires writes → T (mayFollow σ before e)
+      → UpTo σ (e ∷ before) (set last t e)
+  latest before z may =
+      rw (k .event .task-is .1) (up-to-next σ before last (z .up-to) e (mayFollow-iff σ before e .0 may)
+      (omega (arith, k .event .task-is)))
+
+  unwritten : op ≢ 1 → (before : List ℕ) → Listed σ before last acquires writes
+      → Written σ (e ∷ before) writes
+  unwritten d before z =
+      written-keep σ before writes (z .written) e (isWrite-op σ e (k .mark .op-is) ∙ ne-eqb op 1 d)
 
   -- A write is the latest event of its task and the last write of its variable.
-  pub write-noted : op ≡ 1 → Listed σ (e ∷ before) (set last t e) acquires (set writes o e)
-  write-noted w = record {
-    up-to = latest;
+  pub write-noted : op ≡ 1 → Notes σ e last acquires writes (set last t e) acquires (set writes o e)
+  write-noted w before z may = record {
+    up-to = latest before z may;
     acquired = acquired-keep σ before acquires (z .acquired) e
-        (isAcquire-none σ e (u .op-is .1) (omega arith));
-    written = rw (u .object-is .1) (written-next σ before writes (z .written) e
-        (isWrite-op σ e (u .op-is .1) ∙ eq-eqb op 1 w));
+        (isAcquire-none σ e (k .mark .op-is) (omega arith));
+    written = rw (k .event .object-is .1) (written-next σ before writes (z .written) e
+        (isWrite-op σ e (k .mark .op-is) ∙ eq-eqb op 1 w));
   }
 
-  -- An inner acquire is that of its task.
-  pub inner-noted : op ≡ 2 → 1 ≤ e → (m : ℕ) → m ≡ marked σ e → m ≡ e
-      → Listed σ (e ∷ before) (set last t e) acquires writes
-  inner-noted a i m is-match y = record {
-    up-to = latest;
-    acquired = acquired-keep σ before acquires (z .acquired) e
-        (isAcquire-marked σ e op (u .op-is .1) i ∙ rw (← is-match, eq-eqb op 2 a, eq-eqb m e y));
-    written = written-keep σ before writes (z .written) e
-        (isWrite-op σ e (u .op-is .1) ∙ ne-eqb op 1 (omega arith));
-  }
-
-  -- An outer one is that of its task, and the latest acquire of its lock.
-  pub acquire-noted : op ≡ 2 → 1 ≤ e → (m : ℕ) → m ≡ marked σ e → m ≢ e
-      → Listed σ (e ∷ before) (set last t e) (set acquires o e) writes
-  acquire-noted a i m is-match y = record {
-    up-to = latest;
+  -- An outer acquire is that of its task, and the latest acquire of its lock.
+  pub acquire-noted : op ≡ 2 → m ≢ e
+      → Notes σ e last acquires writes (set last t e) (set acquires o e) writes
+  acquire-noted a d before z may = record {
+    up-to = latest before z may;
     acquired =
-        let h : T (isAcquire σ e) =
-        rw (isAcquire-marked σ e op (u .op-is .1) i, ← is-match, eq-eqb op 2 a, ne-eqb m e y) tt in
-        rw (u .object-is .1) (acquired-next σ before acquires (z .acquired) e h
-        (acquire-lock σ ok e op (u .op-is .1) a) (λ f i s. (follows .free h f i s, follows .locked h f i s)));
-    written = written-keep σ before writes (z .written) e
-        (isWrite-op σ e (u .op-is .1) ∙ ne-eqb op 1 (omega arith));
+        let h : T (isAcquire σ e) = rw (marked-outer (k .mark) a d) tt in
+        let follows = mayFollow-iff σ before e .0 may in
+        rw (k .event .object-is .1) (acquired-next σ before acquires (z .acquired) e h
+        (acquire-lock σ (k .sound) e op (k .mark .op-is) a)
+        (λ f i s. (follows .free h f i s, follows .locked h f i s)));
+    written = unwritten (omega arith) before z;
   }
 
   -- Another event is that of its task.
-  pub other-noted : op ≢ 1 → op ≢ 2 → Listed σ (e ∷ before) (set last t e) acquires writes
-  other-noted w a = record {
-    up-to = latest;
-    acquired = acquired-keep σ before acquires (z .acquired) e
-        (isAcquire-none σ e (u .op-is .1) a);
-    written = written-keep σ before writes (z .written) e
-        (isWrite-op σ e (u .op-is .1) ∙ ne-eqb op 1 w);
+  pub other-noted : op ≢ 1 → isAcquire σ e ≡ false
+      → Notes σ e last acquires writes (set last t e) acquires writes
+  other-noted d n before z may = record {
+    up-to = latest before z may;
+    acquired = acquired-keep σ before acquires (z .acquired) e n;
+    written = unwritten d before z;
   }

@@ -21,7 +21,7 @@ use Rattle.laws.proofs.Trace.{decodeAll-length, isEvent-iff}
 use Rattle.laws.proofs.Schedule.{mayFollow-iff}
 use Rattle.schedule.specs.Listed.{UpTo, Listed, Ready}
 use Rattle.schedule.proofs.Asking.{Answers}
-use Rattle.schedule.proofs.Noting.{listed-start}
+use Rattle.schedule.proofs.Noting.{listed-start, Notes}
 
 -- The walk has come to number i of the schedule. The rest decides; with what is listed it is the schedule.
 pub record Walking (σ : Trace) (ρ : List ℕ) (i : ℕ) (last acquires writes : List ℕ) : Type 0 where
@@ -49,9 +49,9 @@ up-to-ext σ ρ ρ′ last same u = record {
 }
 
 -- The indices that the code takes from the tables are in range.
-pub listed-ready : (σ : Trace) (before last acquires writes : List ℕ) → Listed σ before last acquires writes
+pub listed-ready : {σ : Trace} {before last acquires writes : List ℕ} → Listed σ before last acquires writes
     → Ready σ last acquires writes
-listed-ready σ before last acquires writes z = record {
+listed-ready {acquires = acquires} z = record {
   last-long = z .up-to .front .long;
   acquire-long = z .acquired .long;
   write-long = z .written .long;
@@ -77,40 +77,51 @@ unfolding syncPreserving
 walking-start σ ρ last q =
     rw q (record { before = []; tables = listed-start σ; decides = refl; covers = λ e. refl })
 
+-- A turn of the walk: number e stands at i, and r is answered for it.
+pub record Turn (σ : Trace) (s : List ℕ) (i : ℕ) (last acquires writes : List ℕ) (e : ℕ) (r : Bool)
+    : Type 0 where
+  pub walking : Walking σ (numbers s) i last acquires writes
+  pub here : i < length s / 2
+  pub number : e ≡ getD (numbers s) i 0
+  pub answers : Answers σ last acquires writes e r
+
+module _ {σ : Trace} {s : List ℕ} {i : ℕ} {last acquires writes : List ℕ} {e : ℕ} {r : Bool}
+    (k : Turn σ s i last acquires writes e r) where
+  rest : drop i (numbers s) ≡ e ∷ drop (suc i) (numbers s)
+  rest = rw (k .number) (drop-cons (numbers s) i 0 (omega (arith, k .here, numbers-length s)))
+
+  answer : r ≡ mayFollow σ (k .walking .before) e
+  answer = k .answers (k .walking .before) (k .walking .tables)
+
+  -- A number that may not follow decides.
+  pub walking-stop : r ≡ false → (last′ : List ℕ) → Decided σ (numbers s) last′ false
+  unfolding continues
+  walking-stop n last′ = (
+    rw (rest, ← answer, n) at (k .walking .decides),
+    λ q. absurd (true≢false (sym q)),
+  )
+
+  -- One that may,
+  pub walking-may : r ≡ true → T (mayFollow σ (k .walking .before) e)
+  walking-may y = rw (← answer, y) tt
+
+  -- is listed.
+  pub walking-next : r ≡ true → (last′ acquires′ writes′ : List ℕ)
+      → Notes σ e last acquires writes last′ acquires′ writes′
+      → Walking σ (numbers s) (i + 1) last′ acquires′ writes′
+  unfolding continues
+  walking-next y last′ acquires′ writes′ notes =
+      let before = k .walking .before in
+      rw (add-one i) (record {
+        before = e ∷ before;
+        tables = notes before (k .walking .tables) (walking-may y);
+        decides = rw (rest, ← answer, y) at (k .walking .decides);
+        covers = λ f. or-shift (eqb f e) (member f before) (member f (drop (suc i) (numbers s)))
+            ∙ (rw rest at (k .walking .covers f));
+      })
+
 module _ (σ : Trace) (s : List ℕ) (i : ℕ) (last acquires writes : List ℕ)
     (w : Walking σ (numbers s) i last acquires writes) where
-  module _ (h : i < length s / 2) (e : ℕ) (is : e ≡ getD (numbers s) i 0) (r : Bool)
-      (answers : Answers σ last acquires writes e r) where
-    rest : drop i (numbers s) ≡ e ∷ drop (suc i) (numbers s)
-    rest = rw is (drop-cons (numbers s) i 0 (omega (arith, numbers-length s)))
-
-    -- A number that may not follow decides.
-    pub walking-stop : r ≡ false → (last′ : List ℕ) → Decided σ (numbers s) last′ false
-    unfolding continues
-    walking-stop n last′ = (
-      rw (rest, ← (answers (w .before) (w .tables)), n) at (w .decides),
-      λ q. absurd (true≢false (sym q)),
-    )
-
-    -- One that may,
-    pub walking-may : r ≡ true → T (mayFollow σ (w .before) e)
-    walking-may y = rw (← (answers (w .before) (w .tables)), y) tt
-
-    -- is listed.
-    pub walking-next : r ≡ true → (last′ acquires′ writes′ : List ℕ)
-        → ((before : List ℕ) → Listed σ before last acquires writes → T (mayFollow σ before e)
-        → Listed σ (e ∷ before) last′ acquires′ writes′)
-        → Walking σ (numbers s) (i + 1) last′ acquires′ writes′
-    unfolding continues
-    walking-next y last′ acquires′ writes′ notes =
-        rw (add-one i) (record {
-          before = e ∷ w .before;
-          tables = notes (w .before) (w .tables) (walking-may y);
-          decides = rw (rest, ← (answers (w .before) (w .tables)), y) at (w .decides);
-          covers = λ f. or-shift (eqb f e) (member f (w .before)) (member f (drop (suc i) (numbers s)))
-              ∙ (rw rest at (w .covers f));
-        })
-
   -- After the last number the schedule is order-keeping, and the table of tasks says what it lists.
   pub walking-end : length s / 2 ≤ i → Decided σ (numbers s) last true
   unfolding continues

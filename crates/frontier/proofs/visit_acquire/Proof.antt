@@ -9,6 +9,10 @@ use Rattle.frontier.proofs.Leaves.{wantedEarlier-none, wantedEarlier-so
 use Rattle.frontier.proofs.visit_acquire.Statement.{statement}
 use Rattle.frontier.proofs.visit_acquire.Tie as tie
 
+-- The entry, from where the lock is read.
+abbrev start : tie.After-object → tie.Start
+start c = c .before .before .before .before .before
+
 object-requires : tie.Need-object-requires
 object-requires c κs = search needs
 
@@ -37,10 +41,10 @@ earlier-requires c κs = search needs
 
 want-match-requires : tie.Need-want-match-requires
 want-match-requires c κs =
-    let s = c .before .before .before .before .before .before .before .before .before .before .before
-    .before .before in
+    let e = c .before .before in
+    let s = start (e .before .before .before .before .before .before) in
     let event : (1 ≤ c .earlier .result) × (c .earlier .result ≤ s .args .f) =
-    omega (arith, c .earlier .ensures, c .before .before .if1 .left, s .pre .0) in (
+    omega (arith, c .earlier .ensures, e .if1 .left, s .pre .0) in (
       event .0,
       omega (arith, event, s .pre .1),
       omega (arith, event, s .pre .2),

@@ -6,6 +6,10 @@ use Rattle.frontier.proofs.Leaves.{wantedWriter-none, wantedWriter-some
 use Rattle.frontier.proofs.visit_read.Statement.{statement}
 use Rattle.frontier.proofs.visit_read.Tie as tie
 
+-- The entry, from where the writer is read.
+abbrev start : tie.After-shared-slice-known3 → tie.Start
+start c = c .before .before .before .before
+
 mul-w : tie.Need-mul-w
 mul-w c = search needs
 
@@ -14,17 +18,16 @@ shared-slice-read-w c = search needs
 
 returns : tie.Need-returns
 returns c =
-    let s = c .before .before .before .before .before in
-    sym (wantedWriter-none _ _ _ (s .pre .3) (c .if1 .taken))
+    sym (wantedWriter-none _ _ _ (start (c .before) .pre .3) (c .if1 .taken))
 
 cast-task : tie.Need-cast-task
 cast-task c =
-    let s = c .before .before .before .before .before .before in
-    omega (arith, c .before .before .shared-slice-known3 .given (s .args .f))
+    let w = c .before .before in
+    omega (arith, w .shared-slice-known3 .given (start w .args .f))
 
 task-requires : tie.Need-task-requires
 task-requires c κs =
-    let s = c .before .before .before .before .before .before in (
+    let s = start (c .before .before) in (
       omega (arith, c .before .if1 .left),
       writer-in (s .args .records .now) (s .args .f) (s .pre .0, s .pre .1) _ (s .pre .3),
     )
@@ -40,9 +43,9 @@ same-length c = search needs
 
 returns-2 : tie.Need-returns-2
 returns-2 c =
-    let s = c .before .before .before .before .before .before .before .before .before .before in
-    let b = c .before .before .before .before .before in
-    rw (wantedWriter-some _ _ _ (s .pre .3) (b .if1 .left), ← (c .before .before .before .task .ensures .1))
+    let t = c .before .before .before in
+    let e = t .before .before in
+    rw (wantedWriter-some _ _ _ (start (e .before) .pre .3) (e .if1 .left), ← (t .task .ensures .1))
     (c .before .before .raise .ensures)
 
 pub visit-read-spec : {M : Type 1} → statement M

@@ -1,48 +1,72 @@
 -- `schedule::follows` meets its contract: each return cites the law of its case. Assumes nothing.
-use Prim.Native.Nat.{_/_, _≤_}
-use mathlib.Core.Path.{_≡_, sym, _∙_}
-use mathlib.Core.Bool.{true}
+use Prim.Native.Nat.{_*_, _≤_}
+use mathlib.Core.Path.{sym, _∙_}
 use native.Mathlib.Omega.{arith}
 use borrow.Author.Needs.{needs}
 use borrow.Author.Tests.{not-true, not-false}
-use lib.ListN.{length}
+use lib.ListN.{length, getD}
 use Rattle.model.specs.Recording.{decodeAll}
+use Rattle.laws.proofs.Trace.{record-event}
 use Rattle.laws.proofs.Questions.{events-sound}
-use Rattle.schedule.specs.Next.{isNext}
+use Rattle.laws.proofs.Faults.{isAcquire-none}
+use Rattle.laws.proofs.Marks.{marked-inner}
 use Rattle.laws.proofs.WellFormed.{acquire-lock}
-use Rattle.schedule.proofs.Asking.{asked-none, event-in, asked-later, asked-read, asked-other}
-use Rattle.schedule.proofs.Asking.{asked-inner, asked-acquire}
+use Rattle.schedule.proofs.Asking.{Asked, asked-none, asked-later, asked-read, asked-acquire}
+use Rattle.schedule.proofs.Asking.{asked-other}
 use Rattle.schedule.proofs.follows.Statement.{statement}
 use Rattle.schedule.proofs.follows.Tie as tie
 
--- The number is that of an event.
-inside : (c : tie.Else2) → let a = c .before .before .before .before .before .before .before .before
-    .before .args in
-    (1 ≤ a .e) × (a .e ≤ length (a .records .now) / 2)
-inside c = omega (arith, c .before .if1 .left, c .if2 .left)
+-- The entry, from the first test,
+abbrev start : tie.After-shared-slice-known7 → tie.Start
+start c = c .before .before .before .before .before .before .before
 
--- The event comes next in its task.
-next : (c : tie.Else3) → let a = c .before .before .before .before .before .before .before .before .before
-    .before .before .args in
-    isNext (decodeAll (a .records .now)) (a .last .now) (a .e) ≡ true
-next c = sym (c .before .is-next .ensures) ∙ not-false (c .before .is-next .result) (c .if3 .left)
+-- and from where the operation is read.
+abbrev entry : tie.After-operation → tie.Start
+entry c = start (c .before .before .before .before .before)
+
+-- The number is that of an event: its record is there,
+recorded : (c : tie.Else2) → let a = start (c .before .before) .args in
+    (1 ≤ a .e) × (2 * a .e ≤ length (a .records .now))
+recorded c = omega (arith, c .before .if1 .left, c .if2 .left)
+
+-- and it is one of the trace.
+inside : (c : tie.Else2) → let a = start (c .before .before) .args in
+    (1 ≤ a .e) × (a .e ≤ length (decodeAll (a .records .now)))
+inside c = record-event _ _ (recorded c)
+
+-- The event comes next in its task; its operation and mark.
+unpacked : (c : tie.After-operation)
+    → Asked (decodeAll (entry c .args .records .now)) (entry c .args .last .now) (entry c .args .e)
+    (c .operation .result) (getD (entry c .args .matches .now) (entry c .args .e) 0)
+unpacked c =
+    let s = entry c in
+    let (h, k) = inside (c .before .before .before) in
+    let next = c .before .before .is-next in
+    record {
+      sound = events-sound (s .args .records .now) (s .pre .1);
+      inside = (h, k);
+      next = sym (next .ensures) ∙ not-false (next .result) (c .before .if3 .left);
+      mark = record {
+        event = h;
+        op-is = c .operation .ensures .1;
+        mark-is = s .pre .2 .reading .matching-at (s .args .e) h k;
+      };
+    }
 
 returns : tie.Need-returns
 returns c =
-    let s = c .before .before .before .before .before .before .before .before in
-    asked-none _ _ _ _ (s .args .e) (omega (arith, c .if1 .taken))
+    asked-none _ _ _ _ (start (c .before) .args .e) (omega (arith, c .if1 .taken))
 
 returns-2 : tie.Need-returns-2
 returns-2 c =
-    let s = c .before .before .before .before .before .before .before .before .before in
-    asked-none _ _ _ _ (s .args .e) (omega (arith, c .if2 .taken))
+    asked-none _ _ _ _ (start (c .before .before) .args .e) (omega (arith, c .if2 .taken))
 
 is-next-requires : tie.Need-is-next-requires
 is-next-requires c κs =
-    let s = c .before .before .before .before .before .before .before .before .before in
-    let (h, k) = event-in (s .args .records .now) (s .args .e) (inside c) in (
+    let s = start (c .before .before) in
+    let (h, k) = inside c in (
       h,
-      omega (arith, inside c),
+      recorded c .1,
       s .pre .0,
       s .pre .2 .predecessor-long,
       s .pre .3 .last-long,
@@ -51,9 +75,11 @@ is-next-requires c κs =
 
 returns-3 : tie.Need-returns-3
 returns-3 c =
-    let s = c .before .before .before .before .before .before .before .before .before .before .before in
-    let n = sym (c .before .is-next .ensures) ∙ not-true (c .before .is-next .result) (c .if3 .taken) in
-    asked-later (s .args .records .now) (s .pre .1) _ _ _ (s .args .e) (inside (c .before .before)) n
+    let e = c .before .before in
+    let s = start (e .before .before) in
+    let next = c .before .is-next in
+    asked-later _ (events-sound (s .args .records .now) (s .pre .1)) _ _ _ _ (inside e)
+    (sym (next .ensures) ∙ not-true (next .result) (c .if3 .taken))
 
 operation-requires : tie.Need-operation-requires
 operation-requires c κs = search needs
@@ -78,51 +104,40 @@ shared-slice-read-result-2 c = search needs
 
 returns-4 : tie.Need-returns-4
 returns-4 c =
-    let s = c .before .before .before .before .before .before .before .before .before .before .before
-    .before .before .before .before .before in
-    let i = inside (c .before .before .before .before .before .before .before) in
-    let (h, k) = event-in (s .args .records .now) (s .args .e) i in
-    asked-read (s .args .records .now) (s .pre .1) _ _ _ (s .args .e) i
-    (next (c .before .before .before .before .before)) _
-    (c .before .before .before .before .operation .ensures .1) (c .before .before .before .if4 .taken) _ _
-    (c .before .before .object .ensures)
-    (s .pre .2 .reading .writer-at (s .args .e) h k)
+    let o = c .before .before in
+    let u = o .before .before in
+    let (h, k) = unpacked u .inside in
+    asked-read (unpacked u) _ _ (o .before .if4 .taken) _ _ (o .object .ensures)
+    (entry u .pre .2 .reading .writer-at _ h k)
 
 returns-5 : tie.Need-returns-5
 returns-5 c =
-    let s = c .before .before .before .before .before .before .before .before .before .before .before
-    .before .before .before in
-    asked-other (s .args .records .now) (s .pre .1) _ _ _ (s .args .e)
-    (inside (c .before .before .before .before .before)) (next (c .before .before .before)) _
-    (c .before .before .operation .ensures .1) (c .before .if4 .left) (c .if5 .taken)
+    let u = unpacked (c .before .before) in
+    asked-other u _ _ (c .before .if4 .left) (isAcquire-none _ _ (u .mark .op-is) (c .if5 .taken))
 
 mul-if6 : tie.Need-mul-if6
 mul-if6 c = search needs
 
 shared-slice-read-if6 : tie.Need-shared-slice-read-if6
 shared-slice-read-if6 c =
-    let s = c .before .before .before .before .before .before .before .before .before .before .before .before .before .before .before in
-    let i = inside (c .before .before .before .before .before .before) in
-    omega (arith, i, s .pre .0, s .pre .2 .reading .matching-long)
+    let u = c .before .before .before in
+    let s = entry u in
+    omega (arith, recorded (u .before .before .before), s .pre .0, s .pre .2 .reading .matching-long)
 
 returns-6 : tie.Need-returns-6
 returns-6 c =
-    let s = c .before .before .before .before .before .before .before .before .before .before .before .before .before .before .before .before in
-    let i = inside (c .before .before .before .before .before .before .before) in
-    let (h, k) = event-in (s .args .records .now) (s .args .e) i in
-    asked-inner (s .args .records .now) (s .pre .1) _ _ _ (s .args .e) i (next (c .before .before .before .before .before)) _
-    (c .before .before .before .before .operation .ensures .1) (c .before .before .if5 .left) _
-    (s .pre .2 .reading .matching-at (s .args .e) h k) (c .if6 .taken)
+    let e = c .before .before in
+    let u = unpacked (e .before .before) in
+    asked-other u _ _ (e .before .if4 .left) (marked-inner (u .mark) (e .if5 .left) (c .if6 .taken))
 
 is-unlocked-requires : tie.Need-is-unlocked-requires
 is-unlocked-requires c κs =
-    let s = c .before .before .before .before .before .before .before .before .before .before .before .before .before .before .before .before in
-    let b = s .args .records .now in
-    let i = inside (c .before .before .before .before .before .before .before) in
-    let lock = acquire-lock (decodeAll b) (events-sound b (s .pre .1)) (s .args .e) _
-    (c .before .before .before .before .operation .ensures .1) (c .before .before .if5 .left) in (
-      i .0,
-      omega (arith, i),
+    let e = c .before .before in
+    let u = unpacked (e .before .before) in
+    let s = entry (e .before .before) in
+    let lock = acquire-lock _ (u .sound) _ _ (u .mark .op-is) (e .if5 .left) in (
+      u .inside .0,
+      recorded (e .before .before .before .before .before) .1,
       s .pre .0,
       s .pre .2 .reading .matching-long,
       s .pre .3 .last-long,
@@ -134,12 +149,8 @@ is-unlocked-requires c κs =
 
 returns-7 : tie.Need-returns-7
 returns-7 c =
-    let s = c .before .before .before .before .before .before .before .before .before .before .before .before .before .before .before .before .before in
-    let i = inside (c .before .before .before .before .before .before .before .before) in
-    let (h, k) = event-in (s .args .records .now) (s .args .e) i in
-    asked-acquire (s .args .records .now) (s .pre .1) _ _ _ (s .args .e) i (next (c .before .before .before .before .before .before)) _
-    (c .before .before .before .before .before .operation .ensures .1) (c .before .before .before .if5 .left) _
-    (s .pre .2 .reading .matching-at (s .args .e) h k) (c .before .if6 .left) _
+    let e = c .before .before .before in
+    asked-acquire (unpacked (e .before .before)) _ _ (e .if5 .left) (c .before .if6 .left) _
     (c .is-unlocked .ensures)
 
 pub follows-spec : {M : Type 1} → statement M

@@ -1,24 +1,37 @@
 -- `schedule::note` meets its contract: each return cites the law of its case. Assumes nothing.
 use native.Mathlib.Omega.{arith}
 use borrow.Author.Needs.{needs}
+use lib.ListN.{getD}
 use Rattle.model.specs.Recording.{decodeAll}
 use Rattle.laws.proofs.Questions.{events-sound}
+use Rattle.laws.proofs.Faults.{isAcquire-none}
+use Rattle.laws.proofs.Marks.{marked-inner}
 use Rattle.laws.proofs.WellFormed.{acquire-lock}
-use Rattle.laws.proofs.Trace.{Unpacked}
-use Rattle.schedule.proofs.Noting.{write-noted, inner-noted, acquire-noted, other-noted}
+use Rattle.schedule.proofs.Noting.{Noted, write-noted, acquire-noted, other-noted}
 use Rattle.schedule.proofs.note.Statement.{statement}
 use Rattle.schedule.proofs.note.Tie as tie
 
--- The event as it was unpacked.
-unpacked : (c : tie.After-object) → let a = c .before .before .before .before .before .before .before .before .args in
-    Unpacked (decodeAll (a .records .now)) (a .e) (c .before .operation .result)
-    (c .before .before .task .result)
-    (c .object .result)
-unpacked c = record {
-  op-is = c .before .operation .ensures;
-  task-is = c .before .before .task .ensures;
-  object-is = c .object .ensures;
-}
+-- The entry, from where the event is unpacked.
+abbrev start : tie.After-object → tie.Start
+start c = c .before .before .before .before .before .before .before .before
+
+-- The event as it was unpacked, and its mark.
+unpacked : (c : tie.After-object)
+    → Noted (decodeAll (start c .args .records .now)) (start c .args .e) (c .before .operation .result)
+    (c .before .before .task .result) (c .object .result)
+    (getD (start c .args .matches .now) (start c .args .e) 0)
+unpacked c =
+    let s = start c in
+    let op = c .before .operation in
+    record {
+      sound = events-sound (s .args .records .now) (s .pre .4);
+      event = record {
+        op-is = op .ensures;
+        task-is = c .before .before .task .ensures;
+        object-is = c .object .ensures;
+      };
+      mark = record { event = s .pre .0; op-is = op .ensures .1; mark-is = s .pre .3 };
+    }
 
 task-requires : tie.Need-task-requires
 task-requires c κs = search needs
@@ -55,18 +68,15 @@ same-length-2 c = search needs
 
 returns : tie.Need-returns
 returns c =
-    let s = c .before .before .before .before .before .before .before .before .before in
-    λ before z t. write-noted _ (events-sound (s .args .records .now) (s .pre .4))
-    (unpacked (c .before)) before _ _ _ z t (c .if1 .taken)
+    write-noted (unpacked (c .before)) _ _ _ (c .if1 .taken)
 
 same-length-3 : tie.Need-same-length-3
 same-length-3 c = search needs
 
 returns-2 : tie.Need-returns-2
 returns-2 c =
-    let s = c .before .before .before .before .before .before .before .before .before .before in
-    λ before z t. other-noted _ (events-sound (s .args .records .now) (s .pre .4))
-    (unpacked (c .before .before)) before _ _ _ z t (c .before .if1 .left) (c .if2 .taken)
+    let u = unpacked (c .before .before) in
+    other-noted u _ _ _ (c .before .if1 .left) (isAcquire-none _ _ (u .mark .op-is) (c .if2 .taken))
 
 mul-if3 : tie.Need-mul-if3
 mul-if3 c = search needs
@@ -79,20 +89,19 @@ same-length-4 c = search needs
 
 returns-3 : tie.Need-returns-3
 returns-3 c =
-    let s = c .before .before .before .before .before .before .before .before .before .before .before .before in
-    λ before z t. inner-noted _ (events-sound (s .args .records .now) (s .pre .4))
-    (unpacked (c .before .before .before .before)) before _ _ _ z t (c .before .before .if2 .left) (s .pre .0) _ (s .pre .3) (c .if3 .taken)
+    let e = c .before .before in
+    let u = unpacked (e .before .before) in
+    other-noted u _ _ _ (e .before .if1 .left) (marked-inner (u .mark) (e .if2 .left) (c .if3 .taken))
 
 mul-acquires : tie.Need-mul-acquires
 mul-acquires c = search needs
 
 slice-write-acquires : tie.Need-slice-write-acquires
 slice-write-acquires c =
-    let s = c .before .before .before .before .before .before .before .before .before .before .before .before in
-    let b = s .args .records .now in
-    let lock = acquire-lock (decodeAll b) (events-sound b (s .pre .4)) (s .args .e) _
-    (c .before .before .before .before .before .operation .ensures .1) (c .before .before .if2 .left) in
-    omega (arith, lock, c .before .before .before .before .object .ensures, s .pre .5 .acquire-long)
+    let e = c .before .before in
+    let u = unpacked (e .before .before) in
+    let lock = acquire-lock _ (u .sound) _ _ (u .mark .op-is) (e .if2 .left) in
+    omega (arith, lock, u .event .object-is, start (e .before .before) .pre .5 .acquire-long)
 
 same-length-5 : tie.Need-same-length-5
 same-length-5 c = search needs
@@ -102,9 +111,8 @@ same-length-6 c = search needs
 
 returns-4 : tie.Need-returns-4
 returns-4 c =
-    let s = c .before .before .before .before .before .before .before .before .before .before .before .before in
-    λ before z t. acquire-noted _ (events-sound (s .args .records .now) (s .pre .4))
-    (unpacked (c .before .before .before .before)) before _ _ _ z t (c .before .before .if2 .left) (s .pre .0) _ (s .pre .3) (c .if3 .left)
+    let e = c .before .before in
+    acquire-noted (unpacked (e .before .before)) _ _ _ (e .if2 .left) (c .if3 .left)
 
 pub note-spec : {M : Type 1} → statement M
 note-spec =
