@@ -40,17 +40,17 @@ module _ (σ : Trace) (last : List ℕ) (e : ℕ) where
   next-is p t q r = rw (q, r)
 
   module _ (acquires : List ℕ) (o : ℕ) (is : o ≡ object σ e) where
-    -- A lock of which no acquire is listed.
+    -- A lock of which no acquire is listed is free.
     pub unlocked-first : getD acquires o 0 ≡ 0 → true ≡ isUnlocked σ last acquires e
     unfolding isUnlocked
     unlocked-first q = rw (← is, eq-eqb (getD acquires o 0) 0 q)
 
-    -- A lock that a later acquire took.
+    -- A lock that a later acquire took keeps the event back.
     pub unlocked-late : getD acquires o 0 ≢ 0 → e ≤ getD acquires o 0 → false ≡ isUnlocked σ last acquires e
     unfolding isUnlocked
     unlocked-late d h = rw (← is, ne-eqb (getD acquires o 0) 0 d, le-leb e (getD acquires o 0) h)
 
-    -- A lock that earlier acquires took: the match of the latest one decides.
+    -- Of a lock that earlier acquires took, the match of the latest one decides.
     pub unlocked-matched : (m : ℕ) → m ≡ marked σ (getD acquires o 0) → getD acquires o 0 ≢ 0
         → getD acquires o 0 < e → isListed σ last m ≡ isUnlocked σ last acquires e
     unfolding isUnlocked
