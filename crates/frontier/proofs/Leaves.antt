@@ -16,7 +16,7 @@ use Rattle.laws.specs.Frontier.{raised}
 use Rattle.laws.proofs.Tests.{decided}
 use Rattle.laws.proofs.Relations.{writer-below}
 use Rattle.laws.proofs.Faults.{isRead-op, isAcquire-none}
-use Rattle.laws.proofs.Marks.{Marked, marked-outer}
+use Rattle.laws.proofs.Marks.{WithMark, marked-outer}
 use Rattle.frontier.specs.Visit.{wantedWriter, wantedEarlier, latestWith, wantedWith}
 
 -- ---- by what the event is
@@ -59,7 +59,7 @@ module _ (σ : Trace) (f : ℕ) where
 
 -- ---- by the operation and the mark
 
-module _ {σ : Trace} {f op m : ℕ} (k : Marked σ f op m) (want latest : List ℕ) where
+module _ {σ : Trace} {f op m : ℕ} (k : WithMark σ f op m) (want latest : List ℕ) where
   -- A read by its operation wants its writer.
   pub read-visited : op ≡ 0 → {want′ : List ℕ} → want′ ≡ wantedWriter σ want f
       → Leaves σ f want latest want′ latest

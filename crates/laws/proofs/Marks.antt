@@ -67,12 +67,12 @@ module _ (σ : Trace) where
 -- ---- an event as the code has read it
 
 -- An event with its operation and its mark.
-pub record Marked (σ : Trace) (e op m : ℕ) : Type 0 where
+pub record WithMark (σ : Trace) (e op m : ℕ) : Type 0 where
   pub event : 1 ≤ e
   pub op-is : op ≡ at σ e .op
   pub mark-is : m ≡ marked σ e
 
-module _ {σ : Trace} {e op m : ℕ} (k : Marked σ e op m) where
+module _ {σ : Trace} {e op m : ℕ} (k : WithMark σ e op m) where
   -- An acquire that is marked by its own number is no outer one,
   pub marked-inner : op ≡ 2 → m ≡ e → isAcquire σ e ≡ false
   marked-inner a y =

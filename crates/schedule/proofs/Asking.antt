@@ -15,7 +15,7 @@ use Rattle.model.specs.Schedule.{mayFollow}
 use Rattle.laws.specs.EventKinds.{marked}
 use Rattle.laws.proofs.Trace.{decodeAll-length}
 use Rattle.laws.proofs.Faults.{isRead-op, isAcquire-none}
-use Rattle.laws.proofs.Marks.{Marked, marked-le, marked-outer}
+use Rattle.laws.proofs.Marks.{WithMark, marked-le, marked-outer}
 use Rattle.laws.proofs.WellFormed.{WellFormed, acquire-lock}
 use Rattle.schedule.specs.Listed.{Listed}
 use Rattle.schedule.specs.Next.{isListed, isNext, isUnlocked}
@@ -94,7 +94,7 @@ pub record Asked (σ : Trace) (last : List ℕ) (e op m : ℕ) : Type 0 where
   pub sound : WellFormed σ
   pub inside : (1 ≤ e) × (e ≤ length σ)
   pub next : isNext σ last e ≡ true
-  pub mark : Marked σ e op m
+  pub mark : WithMark σ e op m
 
 module _ {σ : Trace} {last : List ℕ} {e op m : ℕ} (k : Asked σ last e op m) (acquires writes : List ℕ) where
   small : task σ e < tasks

@@ -21,7 +21,7 @@ use Rattle.laws.proofs.Lists.{member-iff, zeros}
 use Rattle.laws.proofs.Trace.{Unpacked, isEvent-iff, sameTask-iff, sameObject-iff}
 use Rattle.laws.proofs.WellFormed.{WellFormed, acquire-lock}
 use Rattle.laws.proofs.Faults.{isWrite-op, isAcquire-none}
-use Rattle.laws.proofs.Marks.{Marked, marked-outer}
+use Rattle.laws.proofs.Marks.{WithMark, marked-outer}
 use Rattle.laws.proofs.Schedule.{MayFollow, mayFollow-iff}
 use Rattle.schedule.specs.Listed.{UpTo, Acquired, Written, Listed}
 use Rattle.schedule.proofs.Laws.{listed-iff, Clear}
@@ -193,7 +193,7 @@ Notes σ e last acquires writes last′ acquires′ writes′ =
 pub record Noted (σ : Trace) (e op t o m : ℕ) : Type 0 where
   pub sound : WellFormed σ
   pub event : Unpacked σ e op t o
-  pub mark : Marked σ e op m
+  pub mark : WithMark σ e op m
 
 module _ {σ : Trace} {e op t o m : ℕ} (k : Noted σ e op t o m) (last acquires writes : List ℕ) where
   latest : (before : List ℕ) → Listed σ before last acquires writes → T (mayFollow σ before e)

@@ -66,7 +66,7 @@ fn is_unlocked(records: &[u8], matches: &[u16], last: &[u16], acquires: &[u16], 
 }
 
 // Whether number e may be listed next: it is an event and comes next in its task; a read's last listed write
-// of its variable is its writer, and an acquire finds its lock free and keeps lock order.
+// of its variable is its writer, and an outer acquire finds its lock free and keeps lock order.
 fn follows(
     records: &[u8],
     predecessors: &[u16],
@@ -107,8 +107,8 @@ fn follows(
     is_unlocked(records, matches, last, acquires, e)
 }
 
-// Notes that event e is listed: as the latest of its task, of its lock where it is an acquire, and of its
-// variable where it is a write.
+// Notes that event e is listed: as the latest of its task, of its lock where it is an outer acquire, and of
+// its variable where it is a write.
 fn note(
     records: &[u8],
     matches: &[u16],
@@ -138,10 +138,9 @@ fn note(
     if op != 2 {
         return;
     }
-    if matches[at] == e {
-        return;
+    if matches[at] != e {
+        acquires[object] = e;
     }
-    acquires[object] = e;
 }
 
 // Whether the schedule is order-keeping: each number may follow those before it. If so, `last` has the latest

@@ -5,7 +5,7 @@ use lib.ListN.{getD}
 use Rattle.model.specs.Recording.{decodeAll}
 use Rattle.laws.proofs.Trace.{record-event}
 use Rattle.laws.proofs.Faults.{isAcquire-none}
-use Rattle.laws.proofs.Marks.{Marked, marked-inner}
+use Rattle.laws.proofs.Marks.{WithMark, marked-inner}
 use Rattle.laws.proofs.WellFormed.{acquire-lock}
 use Rattle.laws.proofs.Questions.{events-sound}
 use Rattle.frontier.proofs.Leaves.{read-visited, acquire-visited, other-visited}
@@ -18,7 +18,7 @@ start c = c .before .before .before .before .before .before
 
 -- The event's operation and mark.
 unpacked : (c : tie.After-operation)
-    → Marked (decodeAll (start c .args .records .now)) (start c .args .f) (c .operation .result)
+    → WithMark (decodeAll (start c .args .records .now)) (start c .args .f) (c .operation .result)
     (getD (start c .args .matches .now) (start c .args .f) 0)
 unpacked c =
     let s = start c in

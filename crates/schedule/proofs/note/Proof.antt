@@ -67,8 +67,7 @@ same-length-2 : tie.Need-same-length-2
 same-length-2 c = search needs
 
 returns : tie.Need-returns
-returns c =
-    write-noted (unpacked (c .before)) _ _ _ (c .if1 .taken)
+returns c = write-noted (unpacked (c .before)) _ _ _ (c .if1 .taken)
 
 same-length-3 : tie.Need-same-length-3
 same-length-3 c = search needs
@@ -84,15 +83,6 @@ mul-if3 c = search needs
 shared-slice-read-if3 : tie.Need-shared-slice-read-if3
 shared-slice-read-if3 c = search needs
 
-same-length-4 : tie.Need-same-length-4
-same-length-4 c = search needs
-
-returns-3 : tie.Need-returns-3
-returns-3 c =
-    let e = c .before .before in
-    let u = unpacked (e .before .before) in
-    other-noted u _ _ _ (e .before .if1 .left) (marked-inner (u .mark) (e .if2 .left) (c .if3 .taken))
-
 mul-acquires : tie.Need-mul-acquires
 mul-acquires c = search needs
 
@@ -103,8 +93,16 @@ slice-write-acquires c =
     let lock = acquire-lock _ (u .sound) _ _ (u .mark .op-is) (e .if2 .left) in
     omega (arith, lock, u .event .object-is, start (e .before .before) .pre .5 .acquire-long)
 
+same-length-4 : tie.Need-same-length-4
+same-length-4 c = search needs
+
 same-length-5 : tie.Need-same-length-5
 same-length-5 c = search needs
+
+returns-3 : tie.Need-returns-3
+returns-3 c =
+    let e = c .before .before in
+    acquire-noted (unpacked (e .before .before)) _ _ _ (e .if2 .left) (c .if3 .taken)
 
 same-length-6 : tie.Need-same-length-6
 same-length-6 c = search needs
@@ -112,7 +110,8 @@ same-length-6 c = search needs
 returns-4 : tie.Need-returns-4
 returns-4 c =
     let e = c .before .before in
-    acquire-noted (unpacked (e .before .before)) _ _ _ (e .if2 .left) (c .if3 .left)
+    let u = unpacked (e .before .before) in
+    other-noted u _ _ _ (e .before .if1 .left) (marked-inner (u .mark) (e .if2 .left) (c .if3 .left))
 
 pub note-spec : {M : Type 1} → statement M
 note-spec =
@@ -134,10 +133,10 @@ note-spec =
     returns-2
     mul-if3
     shared-slice-read-if3
-    same-length-4
-    returns-3
     mul-acquires
     slice-write-acquires
+    same-length-4
     same-length-5
+    returns-3
     same-length-6
     returns-4)
