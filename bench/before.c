@@ -1,7 +1,8 @@
-/* Every call of two states of the project in one run: before FOLDER FOLDER RECORDING... loads the calls of both
- * (timed.so and hidzvoma.so in each folder, the state before and the one after), calls them in turn, and prints
- * for each call how long it takes after / before over the recordings: geometric mean, least and most. A call
- * takes the same arguments in both states, which nothing checks: one that changes them needs a line of its own. */
+/* Every call of two states of the project in one run: before FOLDER FOLDER RECORDING... loads the calls of
+ * both (timed.so and hidzvoma.so in each folder, the state before and the one after), calls them in turn, and
+ * prints for each call how long it takes after / before over the recordings: geometric mean, least and most.
+ * A recording that one of the states refuses is left out. A call takes the same arguments in both states,
+ * which nothing checks: one that changes them needs a line of its own. */
 #include <dlfcn.h>
 #include <math.h>
 #include <stdbool.h>
@@ -14,8 +15,8 @@
 
 enum { LARGEST = 8192, ROOM = 65536, ROUNDS = 15, MOST_CALLS = 5000 };
 
-/* What the calls are lent: a recording, the middle entry of its listing of pairs, if it has any, and a schedule
- * for that; and bytes to write to. */
+/* What the calls are lent: a recording, the middle entry of its listing of pairs, if it has any, and a
+ * schedule for that; and bytes to write to. */
 struct lent {
     uint8_t recording[LARGEST], pattern[4], schedule[LARGEST], out[ROOM];
     size_t length, events, schedule_length;
@@ -123,6 +124,13 @@ static void read_recording(struct lent *l, const char *path, void *list_call, vo
     memcpy(l->schedule, l->out, l->schedule_length);
 }
 
+/* The state in the folder refuses the recording. */
+static bool refused(const char *folder, struct lent *l) {
+    void *check_call = find(folder, "timed", "timed_check");
+    if (check_call == NULL) fail("no check in", folder);
+    return on_recording(check_call, l) != 0;
+}
+
 /* ---- measuring */
 
 /* Microseconds of so many calls. */
@@ -171,7 +179,14 @@ int main(int count, char **words) {
     void *list_call = find(words[2], "hidzvoma", "hidzvoma_list");
     void *witness_call = find(words[2], "timed", "timed_witness");
     if (list_call == NULL || witness_call == NULL) fail("no call for patterns and schedules in", words[2]);
-    for (int i = 0; i < recordings; i++) read_recording(&lent[i], words[i + 3], list_call, witness_call);
+    int accepted = 0;
+    for (int i = 0; i < recordings; i++) {
+        read_recording(&lent[accepted], words[i + 3], list_call, witness_call);
+        if (refused(words[1], &lent[accepted]) || refused(words[2], &lent[accepted]))
+            fprintf(stderr, "before: %s is refused in one state and left out\n", words[i + 3]);
+        else
+            accepted++;
+    }
     printf("| Call | after / before: geometric mean (least to most) | Recordings | Answers that differ |\n"
            "|---|---|---|---|\n");
     for (int i = 0; i < CALLS; i++) {
@@ -181,7 +196,7 @@ int main(int count, char **words) {
         if (states[0] == NULL || states[1] == NULL)
             printf("| %s | in one state only | | |\n", c->name);
         else
-            measure(c, states, lent, recordings);
+            measure(c, states, lent, accepted);
     }
     free(lent);
     return 0;

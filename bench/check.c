@@ -1,5 +1,5 @@
 /* Times the check of recordings, and the filling of their tables, against a plain C loop that does the same
- * as the check: holder of each lock, latest write of each variable, each event unpacked by shifts. Recordings
+ * as the check: holder and depth of each lock, latest write of each variable, each event unpacked by shifts. Recordings
  * are read from the files given as arguments. First sees that the answers agree, on every beginning of a
  * recording and with a bit of each byte turned; then measures all three in turn, and prints medians. */
 #include <stdint.h>
@@ -30,6 +30,7 @@ __attribute__((noipa)) static struct outcome check(const uint8_t *recording, siz
     if (length != 2 + 2 * n)
         return (struct outcome){3, 0};
     uint8_t holders[64] = {0};
+    uint16_t depths[64] = {0};
     uint16_t writes[1024] = {0};
     for (size_t e = 1; e <= n; e++) {
         unsigned op = recording[2 * e] >> 6;
@@ -43,13 +44,15 @@ __attribute__((noipa)) static struct outcome check(const uint8_t *recording, siz
         } else if (object > 63) {
             return (struct outcome){4, e};
         } else if (op == 2) {
-            if (holders[object] != 0)
+            if (holders[object] != 0 && holders[object] != task + 1)
                 return (struct outcome){5, e};
             holders[object] = (uint8_t)(task + 1);
+            depths[object]++;
         } else {
             if (holders[object] != task + 1)
                 return (struct outcome){6, e};
-            holders[object] = 0;
+            if (--depths[object] == 0)
+                holders[object] = 0;
         }
     }
     return (struct outcome){0, 0};
@@ -60,12 +63,14 @@ __attribute__((noipa)) static uint64_t c_check(const uint8_t *recording, size_t 
 }
 
 /* What timed_tables has to return for an accepted recording of n events: the relations of the last one, each
- * searched for by its definition, and compared as there; with no event, every table has 0. */
+ * searched for by its definition, and compared as there; an inner acquire or release has its own number in the
+ * table of matches. With no event, every table has 0. */
 static uint64_t last_entries(const uint8_t *recording, size_t n) {
     unsigned first = n == 0 ? 0 : recording[2 * n];
     unsigned op = first >> 6, task = first >> 2 & 15;
     unsigned object = n == 0 ? 0 : (first & 3) << 8 | recording[2 * n + 1];
-    size_t predecessor = 0, writer = 0, match = 0;
+    size_t predecessor = 0, writer = 0, outer = 0;
+    unsigned depths[64] = {0};
     uint64_t held = 0;
     for (size_t e = 1; e < n; e++) {
         unsigned other = recording[2 * e], o = (other & 3) << 8 | recording[2 * e + 1];
@@ -74,13 +79,19 @@ static uint64_t last_entries(const uint8_t *recording, size_t n) {
             predecessor = e;
         if (op == 0 && other >> 6 == 1 && o == object)
             writer = e;
-        if (op == 3 && other >> 6 == 2 && o == object && own)
-            match = e;
-        if (own && other >> 6 == 2)
+        if (own && other >> 6 == 2 && depths[o]++ == 0) {
             held |= (uint64_t)1 << o;
-        if (own && other >> 6 == 3)
+            if (o == object)
+                outer = e;
+        }
+        if (own && other >> 6 == 3 && --depths[o] == 0)
             held &= ~((uint64_t)1 << o);
     }
+    size_t match = 0;
+    if (op == 2 && depths[object] != 0)
+        match = n;
+    if (op == 3)
+        match = depths[object] == 1 ? outer : n;
     return op == task ? 1 : object == match ? 2 : predecessor == writer ? 3 : held == 0 ? 4 : 0;
 }
 

@@ -7,9 +7,14 @@
  * object in 10: the lock (0 to 63) or the variable (0 to 1,023). The most significant bit comes first. Events
  * are numbered from 1.
  *
- * A deadlock pattern is a list of 2 to 16 acquires by different tasks of different locks. The lock of each is
- * held at the next one, the last one's at the first, and no lock is held at two of them; the smallest event
- * comes first. In bytes every number takes two, the high byte first.
+ * A task may acquire a lock again that it holds. Its depth in the lock is then one more, each release takes
+ * one off, and it holds the lock until depth 0. Only the acquire from depth 0 and the release to depth 0, the
+ * outer ones, count as acquire and release; an inner one is an event of its task like any other. So the guard
+ * for a pattern is put at the outer acquire, and it covers the inner ones.
+ *
+ * A deadlock pattern is a list of 2 to 16 outer acquires by different tasks of different locks. The lock of
+ * each is held at the next one, the last one's at the first, and no lock is held at two of them; the smallest
+ * event comes first. In bytes every number takes two, the high byte first.
  *
  * Every call ends, whatever the bytes. It keeps no state and none of its arguments: all bytes stay the
  * caller's, and calls may run in several threads at once. While a call runs, nothing else writes the bytes
@@ -28,7 +33,7 @@
  *     2   is the format 1?
  *     3   is the length exactly 2 + 2 * (number of events)?
  *     4   is the object of an acquire or release at most 63?
- *     5   is the lock of an acquire held by no task, its own included?
+ *     5   is the lock of an acquire held by no other task?
  *     6   is the lock of a release held by that task?
  *     7   does a read have an earlier write of its variable?
  *     8   is `largest` 0, or 2 to 16? (0 stands for 16)                             (hidzvoma_list)

@@ -1,5 +1,5 @@
 //! generate [--NAME VALUE ...]: writes a random recording to standard output. The names are those of the
-//! options in `gen`: seed, style, tasks, locks, vars, events, depth, invert, access and stick.
+//! options in `gen`: seed, style, tasks, locks, vars, events, depth, invert, again, access and stick.
 
 use oracle::gen::{generate, Options};
 use std::io::Write;
@@ -18,6 +18,7 @@ fn main() {
             "--events" => options.events = value.parse::<usize>().unwrap().min(4095),
             "--depth" => options.depth = value.parse().unwrap(),
             "--invert" => options.invert = value.parse().unwrap(),
+            "--again" => options.again = value.parse().unwrap(),
             "--access" => options.access = value.parse().unwrap(),
             "--stick" => options.stick = value.parse().unwrap(),
             name => panic!("unknown option {name}"),
