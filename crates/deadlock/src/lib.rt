@@ -25,21 +25,13 @@ ghost use Rattle.frontier.specs.Visit.{Needed};
 ghost use Rattle.deadlock.specs.Judged.{Holding, joins, judged, Reached, behindAt, behind};
 ghost use Rattle.deadlock.specs.Delivered.{delivered, deliveredOut, witnessFrom, witnessOutFrom};
 
-// Lock l is in the mask.
-pub fn in_mask(mask: u64, l: u64) -> bool
-    requires { ⌜ l < locks ⌝ }
-    ensures { λ r. ⌜ r ≡ hasBit mask l ⌝ }
-{
-    (mask >> l) & 1 == 1
-}
-
 // The lock of the acquire e is in the mask.
 pub fn lock_in_mask(records: &[u8], mask: u64, e: usize) -> bool
     requires { ⌜ (1 ≤ e) × (2 * e ≤ length (now records))
         × (checkEvents (decodeAll (now records)) .refusal ≡ 0) × T (isAcquire (decodeAll (now records)) e) ⌝ }
     ensures { λ r. ⌜ r ≡ hasBit mask (object (decodeAll (now (records .entry))) e) ⌝ }
 {
-    in_mask(mask, recording::object(records, e) as u64)
+    recording::in_mask(mask, recording::object(records, e) as u64)
 }
 
 // The mask of tasks with that of event e.
@@ -60,7 +52,7 @@ pub fn is_acquire(records: &[u8], mask: u64, e: usize) -> bool
     if recording::operation(records, e) != 2 {
         return false;
     }
-    !in_mask(mask, recording::object(records, e) as u64)
+    !recording::in_mask(mask, recording::object(records, e) as u64)
 }
 
 // The number e is that of an acquire, with which a pattern may begin.
@@ -99,7 +91,7 @@ pub fn follows(
     if !lock_in_mask(records, held, last) {
         return false;
     }
-    if in_mask(tasks, recording::task(records, e) as u64) {
+    if recording::in_mask(tasks, recording::task(records, e) as u64) {
         return false;
     }
     if guards & held != 0 {

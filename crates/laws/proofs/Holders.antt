@@ -1,24 +1,21 @@
--- How one event changes the holder and the depth of a lock, and tables of both; what they hold is in
--- specs/Walked. Well-formedness is not used: the questions are asked with these tables. Assumes nothing.
+-- The holder and the depth of a lock, and how one event changes them; what they are is in specs/Walked, and
+-- tables of them are in Kept. Well-formedness is not used. Assumes nothing.
 use Prim.Native.Nat.{ℕ, zero, suc, _-_, _≤_, _<_}
 use mathlib.Core.Path.{_≡_, refl, sym, _∙_}
 use mathlib.Core.Logic.{⊎-elim, _≢_}
 use mathlib.Core.Bool.{Bool, true, false, cond, not, _||_}
-use mathlib.Core.List.{List}
 use native.Mathlib.Omega.{arith}
 use lib.Dec.{T, eqb, eqb→eq, eqb-refl, eqb·zero-suc, eqb·suc-zero, eqb·suc-suc, ltb, ltb→lt, lt→ltb}
-use lib.ListN.{getD, set, replicate, length-set, length-replicate, getD-replicate}
-use lib.Seq.{getD-set-same, getD-set-other}
 use borrow.Author.Tests.{eq-eqb, ne-eqb, eqb-true, eqb-false, lt-ltb}
 use Rattle.model.specs.Lists.{all, any, from}
-use Rattle.model.specs.Trace.{Trace, tasks, locks, task, object, enters, leaves, depth, ownDepth}
+use Rattle.model.specs.Trace.{Trace, tasks, task, object, enters, leaves, depth, ownDepth}
 use Rattle.model.specs.Relations.{holds}
 use Rattle.model.specs.WellFormed.{isFree}
-use Rattle.laws.specs.Walked.{Holder, Holders}
+use Rattle.laws.specs.Walked.{Holder}
 use Rattle.laws.proofs.Tests.{decided, equal?, T-ext, or-r, or-elim, is-true}
 use Rattle.laws.proofs.Lists.{all-iff, any-iff, from-iff}
-use Rattle.laws.proofs.Depth.{depth-start, depth-enter, depth-leave, depth-apart, depth-other}
-use Rattle.laws.proofs.Depth.{depth-access, depth-le}
+use Rattle.laws.proofs.Depth.{depth-start, depth-enter, depth-leave, depth-other}
+use Rattle.laws.proofs.Depth.{depth-le}
 
 module _ (σ : Trace) where
   -- ---- one lock
@@ -181,67 +178,3 @@ module _ (σ : Trace) where
       go (suc t) b f q =
           let r : depth σ e t l ≡ d = f t (omega arith) ∙ rw (eq-eqb (suc t) (suc t) refl) in
           omega (arith, depth-le σ e t l)
-
-  -- ---- tables of holders and depths
-
-  -- Before event 1 no lock is held.
-  pub holders-start : Holders σ 1 (replicate locks 0) (replicate locks 0)
-  holders-start = record {
-    holders-long = length-replicate {A = ℕ} locks 0;
-    depths-long = length-replicate {A = ℕ} locks 0;
-    at = λ l h. rw (getD-replicate {A = ℕ} locks l 0 0 h) (holder-start l);
-  }
-
-  -- The event's lock gets another holder and depth.
-  pub holders-set : {e h d : ℕ} {holders depths : List ℕ} → Holders σ e holders depths → object σ e < locks
-      → Holder σ (suc e) (object σ e) h d
-      → Holders σ (suc e) (set holders (object σ e) h) (set depths (object σ e) d)
-  holders-set {e} {h} {d} {holders} {depths} z b n = record {
-    holders-long = length-set holders (object σ e) h ∙ z .holders-long;
-    depths-long = length-set depths (object σ e) d ∙ z .depths-long;
-    at = λ l k. ⊎-elim (same l) (other l k) (equal? l (object σ e));
-  }
-    where
-      same : (l : ℕ) → l ≡ object σ e
-          → Holder σ (suc e) l (getD (set holders (object σ e) h) l 0) (getD (set depths (object σ e) d) l 0)
-      same l q =
-          rw (
-            q,
-            getD-set-same holders (object σ e) h 0 (omega (arith, z .holders-long)),
-            getD-set-same depths (object σ e) d 0 (omega (arith, z .depths-long)),
-          ) n
-
-      other : (l : ℕ) → l < locks → l ≢ object σ e
-          → Holder σ (suc e) l (getD (set holders (object σ e) h) l 0) (getD (set depths (object σ e) d) l 0)
-      other l k n =
-          rw (getD-set-other holders (object σ e) l h 0 n, getD-set-other depths (object σ e) l d 0 n)
-          (holder-keep (λ t. depth-apart σ e t l (λ q. n (sym q))) (z .at l k))
-
-  -- The event's lock keeps its holder, and gets another depth.
-  pub holders-depth : {e d : ℕ} {holders depths : List ℕ} → Holders σ e holders depths → object σ e < locks
-      → Holder σ (suc e) (object σ e) (getD holders (object σ e) 0) d
-      → Holders σ (suc e) holders (set depths (object σ e) d)
-  holders-depth {e} {d} {holders} {depths} z b n = record {
-    holders-long = z .holders-long;
-    depths-long = length-set depths (object σ e) d ∙ z .depths-long;
-    at = λ l k. ⊎-elim (same l) (other l k) (equal? l (object σ e));
-  }
-    where
-      same : (l : ℕ) → l ≡ object σ e
-          → Holder σ (suc e) l (getD holders l 0) (getD (set depths (object σ e) d) l 0)
-      same l q = rw (q, getD-set-same depths (object σ e) d 0 (omega (arith, z .depths-long))) n
-
-      other : (l : ℕ) → l < locks → l ≢ object σ e
-          → Holder σ (suc e) l (getD holders l 0) (getD (set depths (object σ e) d) l 0)
-      other l k n =
-          rw (getD-set-other depths (object σ e) l d 0 n)
-          (holder-keep (λ t. depth-apart σ e t l (λ q. n (sym q))) (z .at l k))
-
-  -- A read or a write leaves them.
-  pub holders-access : {e : ℕ} {holders depths : List ℕ} → enters σ e ≡ false → leaves σ e ≡ false
-      → Holders σ e holders depths → Holders σ (suc e) holders depths
-  holders-access {e} a r z = record {
-    holders-long = z .holders-long;
-    depths-long = z .depths-long;
-    at = λ l h. holder-keep (λ t. depth-access σ e t l a r) (z .at l h);
-  }

@@ -19,21 +19,32 @@ pub record Holder (σ : Trace) (e l h d : ℕ) : Type 0 where
   pub at : (t : ℕ) → t < tasks → depth σ e t l ≡ cond (eqb h (suc t)) d 0
   pub none : eqb h 0 ≡ eqb d 0
 
--- For each lock its holder and depth.
+-- What a table has for depth d: the depth, and for 0 the 1 that an acquire makes of it. So an outer acquire or
+-- release changes no entry.
+abbrev pub kept : ℕ → ℕ
+kept d = cond (eqb d 0) 1 d
+
+-- Lock l has the holder h, and x is kept for its depth.
+pub record Kept (σ : Trace) (e l h x : ℕ) : Type 0 where
+  pub depth : ℕ
+  pub at : Holder σ e l h depth
+  pub is : x ≡ kept depth
+
+-- For each lock its holder, and what is kept for its depth.
 pub record Holders (σ : Trace) (e : ℕ) (holders depths : List ℕ) : Type 0 where
   pub holders-long : length holders ≡ locks
   pub depths-long : length depths ≡ locks
-  pub at : (l : ℕ) → l < locks → Holder σ e l (getD holders l 0) (getD depths l 0)
+  pub at : (l : ℕ) → l < locks → Kept σ e l (getD holders l 0) (getD depths l 0)
 
 -- Lock l has a holder at depth d, whichever task that is, or none where d is 0.
 pub record LockDepth (σ : Trace) (e l d : ℕ) : Type 0 where
   pub holder : ℕ
   pub at : Holder σ e l holder d
 
--- For each lock its depth.
+-- For each lock what is kept for its depth.
 pub record LockDepths (σ : Trace) (e : ℕ) (table : List ℕ) : Type 0 where
   pub long : length table ≡ locks
-  pub at : (l : ℕ) → l < locks → LockDepth σ e l (getD table l 0)
+  pub at : (l : ℕ) → l < locks → (h : ℕ) × Kept σ e l h (getD table l 0)
 
 -- For each task the mask of the locks that it holds.
 pub record Locksets (σ : Trace) (e : ℕ) (table : List ℕ) : Type 0 where

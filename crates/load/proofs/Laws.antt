@@ -18,8 +18,8 @@ use Rattle.laws.proofs.Tests.{decided}
 use Rattle.laws.proofs.Filters.{filter-next}
 use Rattle.laws.proofs.Faults.{enters-op, leaves-op}
 use Rattle.laws.proofs.WellFormed.{WellFormed}
-use Rattle.laws.proofs.LockDepths.{lockDepth-access, lockDepth-apart, lockDepth-enter, lockDepth-leave}
-use Rattle.laws.proofs.LockDepths.{lockDepth-any, lockDepth-fits}
+use Rattle.laws.proofs.LockDepth.{lockDepth-access, lockDepth-apart, lockDepth-enter, lockDepth-leave}
+use Rattle.laws.proofs.LockDepth.{lockDepth-any, lockDepth-fits}
 
 -- ---- one event
 

@@ -75,7 +75,7 @@ fn hop(records: &[u8], next: &[u16], blocks: &[u64], l: u64, e: usize) -> usize
 {
     let mut x = next[e] as usize;
     while x != 0 {
-        if deadlock::in_mask(blocks[x / 64], l) {
+        if recording::in_mask(blocks[x / 64], l) {
             return x;
         }
         let end = x / 64 * 64 + 63;
@@ -173,7 +173,7 @@ fn widen_by(lead: &[u64], mask: u64, m: usize, wide: u64) -> u64
     requires { ⌜ (m < locks) × (length (now lead) ≡ locks) ⌝ }
     ensures { λ r. ⌜ Covers wide r × (T (hasBit mask m) → Covers (getD (now (lead .entry)) m 0) r) ⌝ }
 {
-    if deadlock::in_mask(mask, m as u64) {
+    if recording::in_mask(mask, m as u64) {
         return wide | lead[m];
     }
     wide

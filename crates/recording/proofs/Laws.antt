@@ -19,7 +19,7 @@ use Rattle.laws.specs.Walked.{Holders, LatestEvents}
 use Rattle.laws.proofs.Tests.{equal?}
 use Rattle.laws.proofs.Trace.{decodeAll-length}
 use Rattle.laws.proofs.LatestEvents.{latest-start, latest-set, latest-keep, latest-writer}
-use Rattle.laws.proofs.Holders.{holders-start, holders-access}
+use Rattle.laws.proofs.Kept.{holders-start, holders-access}
 use Rattle.laws.proofs.Faults.{isRead-op, isWrite-op, enters-op, leaves-op, fault-lock, fault-acquire}
 use Rattle.laws.proofs.Faults.{fault-release, fault-write, fault-read, checkEvents-fault, checkEvents-none}
 use Rattle.recording.specs.Asked.{Asked}
@@ -63,7 +63,7 @@ module _ {σ : Trace} {e op o : ℕ} {holders depths writes : List ℕ} (u : Com
     -- A read or a write leaves the holders.
     unlocked : op < 2 → Holders σ (suc e) holders depths
     unlocked a =
-        holders-access σ (enters-op σ e is-op ∙ ne-eqb op 2 (omega arith))
+        holders-access (enters-op σ e is-op ∙ ne-eqb op 2 (omega arith))
         (leaves-op σ e is-op ∙ ne-eqb op 3 (omega arith)) (z .holder)
 
     -- A read whose variable has no write.
@@ -141,10 +141,10 @@ module _ {σ : Trace} {e op o : ℕ} {holders depths writes : List ℕ} (u : Com
 -- ---- the walk
 
 -- Before event 1 the tables are clear.
-pub asked-start : (σ : Trace) → Asked σ 1 (replicate locks 0) (replicate locks 0) (replicate variables 0)
+pub asked-start : (σ : Trace) → Asked σ 1 (replicate locks 0) (replicate locks 1) (replicate variables 0)
 asked-start σ = record {
   faultless = λ f a b. absurd (omega arith);
-  holder = holders-start σ;
+  holder = holders-start;
   long = length-replicate {A = ℕ} variables 0;
   write = latest-start (isWrite σ) (object σ) variables;
 }

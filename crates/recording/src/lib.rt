@@ -6,6 +6,7 @@ ghost use mathlib.Core.Bool.{cond};
 ghost use lib.Dec.{T};
 ghost use lib.ListN.{length, getD};
 ghost use lib.Seq.{sets};
+ghost use Rattle.model.specs.Lists.{hasBit};
 ghost use Rattle.model.specs.Bytes.{numbers, twoBytes};
 ghost use Rattle.model.specs.Trace.{tasks, locks, variables, at, task, object, enters, leaves};
 ghost use Rattle.model.specs.Recording.{decodeAll, eventCount};
@@ -59,8 +60,17 @@ pub fn object(records: &[u8], e: usize) -> u16
     (((records[at] & 3) as u16) << 8) | (records[at + 1] as u16)
 }
 
+// Lock l is in the mask.
+pub fn in_mask(mask: u64, l: u64) -> bool
+    requires { ⌜ l < locks ⌝ }
+    ensures { λ r. ⌜ r ≡ hasBit mask l ⌝ }
+{
+    (mask >> l) & 1 == 1
+}
+
 // Puts question 5 to acquire e, with the holder of each lock (its task plus 1, or 0) and how deep it is in
-// it: 5, or 0, and then its task is the holder, one deeper. A depth is below e, so it fits.
+// it, or 1 without a holder: 5, or 0, and then its task is the holder, one deeper. A depth is at most e, so it
+// fits.
 fn enter(records: &[u8], e: usize, holders: &mut [u8], depths: &mut [u16]) -> u64
     requires { ⌜ (1 ≤ e) × (2 * e ≤ length (now records)) × (e < tableLength)
         × T (enters (decodeAll (now records)) e) × (object (decodeAll (now records)) e < locks)
@@ -71,15 +81,14 @@ fn enter(records: &[u8], e: usize, holders: &mut [u8], depths: &mut [u16]) -> u6
 {
     let own = task(records, e) + 1;
     let l = object(records, e) as usize;
-    if holders[l] == own {
-        depths[l] = depths[l] + 1;
+    if holders[l] == 0 {
+        holders[l] = own;
         return 0;
     }
-    if holders[l] != 0 {
+    if holders[l] != own {
         return 5;
     }
-    holders[l] = own;
-    depths[l] = 1;
+    depths[l] = depths[l] + 1;
     0
 }
 
@@ -98,11 +107,11 @@ fn leave(records: &[u8], e: usize, holders: &mut [u8], depths: &mut [u16]) -> u6
     if holders[l] != task(records, e) + 1 {
         return 6;
     }
-    let d = depths[l] - 1;
-    depths[l] = d;
-    if d == 0 {
+    if depths[l] == 1 {
         holders[l] = 0;
+        return 0;
     }
+    depths[l] = depths[l] - 1;
     0
 }
 
@@ -142,7 +151,7 @@ fn check_events(records: &[u8]) -> Outcome
     ensures { λ r. ⌜ r ≡ checkEvents (decodeAll (now (records .entry))) ⌝ }
 {
     let mut holders = [0u8; 64];
-    let mut depths = [0u16; 64];
+    let mut depths = [1u16; 64];
     let mut writes = [0u16; 1024];
     let mut e = 1;
     while e <= records.len() / 2 {

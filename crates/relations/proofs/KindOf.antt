@@ -1,25 +1,28 @@
 -- The kind of one event by the depth of its lock, and the depth after it. Assumes nothing.
-use Prim.Native.Nat.{ℕ, suc, _+_, _-_, _≤_, _<_}
-use mathlib.Core.Path.{_≡_, _∙_}
+use Prim.Native.Nat.{ℕ, zero, suc, _+_, _-_, _≤_, _<_}
+use mathlib.Core.Path.{_≡_, sym, _∙_}
 use mathlib.Core.Logic.{⊎-elim, _≢_}
-use mathlib.Core.Bool.{cond}
+use mathlib.Core.Bool.{true, false, cond, _||_}
 use mathlib.Core.List.{List}
 use native.Mathlib.Numerals.{add-one}
 use native.Mathlib.Omega.{arith}
-use lib.Dec.{T, eqb}
+use lib.Dec.{T, eqb, eqb→eq, eqb·suc-zero}
 use lib.ListN.{length, getD, set}
-use borrow.Author.Tests.{eq-eqb, ne-eqb}
-use Rattle.model.specs.Trace.{Trace, locks, at, object, enters, leaves}
-use Rattle.laws.specs.Walked.{LockDepth, LockDepths}
+use borrow.Author.Tests.{eq-eqb, ne-eqb, eqb-true}
+use Rattle.model.specs.Lists.{hasBit}
+use Rattle.model.specs.Trace.{Trace, tasks, locks, at, task, object, enters, leaves}
+use Rattle.model.specs.Relations.{held}
+use Rattle.laws.specs.Walked.{Kept, LockDepths}
 use Rattle.laws.proofs.Tests.{or-l, or-r, equal?}
 use Rattle.laws.proofs.Faults.{enters-op, leaves-op}
 use Rattle.laws.specs.EventKinds.{innerKind, kind}
 use Rattle.laws.proofs.EventKinds.{kind-access, kind-enter, kind-leave}
-use Rattle.laws.proofs.LockDepths.{lockDepth-enter, lockDepth-leave, lockDepth-fits}
-use Rattle.laws.proofs.LockDepths.{lockDepths-set, lockDepths-access}
-use Rattle.laws.proofs.WellFormed.{WellFormed, operation-lt}
+use Rattle.laws.proofs.Relations.{held-bit}
+use Rattle.laws.proofs.Kept.{kept-fits, kept-holds, kept-free, kept-first, kept-own, kept-again, kept-freed}
+use Rattle.laws.proofs.Kept.{kept-lowered, lockDepths-keep, lockDepths-set, lockDepths-access}
+use Rattle.laws.proofs.WellFormed.{WellFormed, enter-isFree, leave-held, operation-lt}
 
--- Event e of a well-formed trace, with its operation, before which the locks are at these depths.
+-- Event e of a well-formed trace, with its operation, before which this is kept of the locks' depths.
 pub record Coming (σ : Trace) (e op : ℕ) (depths : List ℕ) : Type 0 where
   pub sound : WellFormed σ
   pub event : (1 ≤ e) × (e ≤ length σ)
@@ -34,22 +37,25 @@ module _ {σ : Trace} {e op : ℕ} {depths : List ℕ} (u : Coming σ e op depth
   is-op : op ≡ at σ e .op
   is-op = u .op-is .1
 
+  small : task σ e < tasks
+  small = u .sound .task-lt e (u .event .0) (u .event .1)
+
   -- The kind of a read or a write, which changes no depth.
   pub access-kind : op < 2 → Kind σ e op depths
   access-kind h = (
     omega (arith, u .op-is),
     kind-access σ e is-op h,
-    rw (add-one e) (lockDepths-access σ (enters-op σ e is-op ∙ ne-eqb op 2 (omega arith))
+    rw (add-one e) (lockDepths-access (enters-op σ e is-op ∙ ne-eqb op 2 (omega arith))
         (leaves-op σ e is-op ∙ ne-eqb op 3 (omega arith)) (u .depths-are)),
   )
 
+  entered : op ≡ 2 → T (enters σ e)
+  entered a = rw (enters-op σ e is-op, a) tt
+
+  left : op ≡ 3 → T (leaves σ e)
+  left a = rw (leaves-op σ e is-op, a) tt
+
   module _ {o : ℕ} (q : o ≡ object σ e) where
-    entered : op ≡ 2 → T (enters σ e)
-    entered a = rw (enters-op σ e is-op, a) tt
-
-    left : op ≡ 3 → T (leaves σ e)
-    left a = rw (leaves-op σ e is-op, a) tt
-
     -- The object of an acquire or a release is a lock.
     pub lock-small : 2 ≤ op → o < locks
     lock-small h =
@@ -57,48 +63,82 @@ module _ {σ : Trace} {e op : ℕ} {depths : List ℕ} (u : Coming σ e op depth
         (⊎-elim (λ a. or-l (enters σ e) _ (entered a))
         (λ d. or-r (enters σ e) _ (left (omega (arith, u .op-is)))) (equal? op 2)))
 
-    -- Its lock's depth is below the event's number.
-    pub depth-below : 2 ≤ op → getD depths o 0 < e
-    depth-below h = omega (arith, lockDepth-fits σ (u .depths-are .at o (lock-small h)), u .event)
+    kept-at : 2 ≤ op → (h : ℕ) × Kept σ e (object σ e) h (getD depths o 0)
+    kept-at h = rw q (u .depths-are .at (object σ e) (rw q at (lock-small h)))
 
-    own : 2 ≤ op → LockDepth σ e (object σ e) (getD depths o 0)
-    own h = rw q (u .depths-are .at (object σ e) (rw q at (lock-small h)))
+    -- What is kept for its lock's depth is at most the event's number.
+    pub depth-fits : 2 ≤ op → getD depths o 0 ≤ e
+    depth-fits h = kept-fits (u .event .0) (kept-at h .1)
 
-    moved : 2 ≤ op → (d : ℕ) → LockDepth σ (suc e) (object σ e) d → LockDepths σ (e + 1) (set depths o d)
-    moved h d z = rw (add-one e, q) (lockDepths-set σ (u .depths-are) (rw q at (lock-small h)) z)
+    unmoved : 2 ≤ op → (h : ℕ) → Kept σ (suc e) (object σ e) h (getD depths o 0) → LockDepths σ (e + 1) depths
+    unmoved i h z = rw (add-one e) (lockDepths-keep (u .depths-are) (rw q at z))
 
-    enter-kind : op ≡ 2 → (k : ℕ) → k ≡ cond (eqb (getD depths o 0) 0) 2 innerKind
-        → Kind σ e k (set depths o (getD depths o 0 + 1))
-    enter-kind a k p =
-        let (depth, after) = lockDepth-enter σ (u .sound) (entered a) (own (omega arith)) in (
-          omega (arith, u .op-is),
-          p ∙ kind-enter σ e is-op a _ depth,
-          moved (omega arith) (getD depths o 0 + 1) (rw (add-one (getD depths o 0)) after),
-        )
+    moved : 2 ≤ op → (h x : ℕ) → Kept σ (suc e) (object σ e) h x → LockDepths σ (e + 1) (set depths o x)
+    moved i h x z = rw (add-one e, q) (lockDepths-set (u .depths-are) (rw q at (lock-small i)) z)
 
-    leave-kind : op ≡ 3 → (k : ℕ) → k ≡ cond (eqb (getD depths o 0) 1) 3 innerKind
-        → Kind σ e k (set depths o (getD depths o 0 - 1))
-    leave-kind a k p =
-        let (depth, deep, after) = lockDepth-leave σ (u .sound) (left a) (own (omega arith)) in (
-          omega (arith, u .op-is),
-          p ∙ kind-leave σ e is-op a _ depth,
-          moved (omega arith) (getD depths o 0 - 1) after,
-        )
+    -- ---- acquires
 
-    -- A release's lock has a depth above 0.
-    pub leave-deep : op ≡ 3 → 0 < getD depths o 0
-    leave-deep a = lockDepth-leave σ (u .sound) (left a) (own (omega arith)) .1
+    module _ (a : op ≡ 2) where
+      -- The lock is held at the event where the event's task is its holder; no other task is.
+      holder-is : (h : ℕ) → Kept σ e (object σ e) h (getD depths o 0)
+          → T (eqb h 0 || eqb h (suc (task σ e))) × (hasBit (held σ e) o ≡ eqb h (suc (task σ e)))
+      holder-is h z = (
+        rw (kept-free z) at (enter-isFree σ (u .sound) e (entered a)),
+        held-bit σ e o (lock-small (omega arith)) ∙ rw q (kept-holds z (task σ e) small),
+      )
 
-    -- The kind of an acquire from depth 0 and one from above,
-    pub enter-outer : op ≡ 2 → getD depths o 0 ≡ 0 → Kind σ e 2 (set depths o (getD depths o 0 + 1))
-    enter-outer a d = enter-kind a 2 (rw (eq-eqb (getD depths o 0) 0 d))
+      -- The kind of an acquire whose lock is not held,
+      pub enter-outer : hasBit (held σ e) o ≡ false → Kind σ e 2 depths
+      enter-outer n = go (kept-at (omega arith) .0) (kept-at (omega arith) .1)
+        where
+          go : (h : ℕ) → Kept σ e (object σ e) h (getD depths o 0) → Kind σ e 2 depths
+          go zero z =
+              let (own, after) = kept-first small (entered a) z in
+              (omega (arith, u .op-is), kind-enter σ e is-op a 0 own, unmoved (omega arith) _ after)
+          go (suc t) z =
+              let (free, bit) = holder-is (suc t) z in
+              absurd (rw (sym bit ∙ n, eqb·suc-zero t) at free)
 
-    pub enter-inner : op ≡ 2 → getD depths o 0 ≢ 0 → Kind σ e 4 (set depths o (getD depths o 0 + 1))
-    enter-inner a d = enter-kind a 4 (rw (ne-eqb (getD depths o 0) 0 d))
+      -- and of one whose lock is.
+      pub enter-inner : hasBit (held σ e) o ≡ true → Kind σ e 4 (set depths o (getD depths o 0 + 1))
+      enter-inner y =
+          let (h, z) = kept-at (omega arith) in
+          let own : h ≡ suc (task σ e) = eqb-true h (suc (task σ e)) (sym (holder-is h z .1) ∙ y) in
+          let z : Kept σ e (object σ e) (suc (task σ e)) (getD depths o 0) = rw own at z in
+          let (depth, deep) = kept-own small z in (
+            omega (arith, u .op-is),
+            rw (ne-eqb (getD depths o 0) 0 (omega arith)) at (kind-enter σ e is-op a (getD depths o 0) depth),
+            rw (add-one (getD depths o 0)) (moved (omega arith) _ _ (kept-again small z (entered a))),
+          )
 
-    -- and that of a release to depth 0 and one to above.
-    pub leave-outer : op ≡ 3 → getD depths o 0 ≡ 1 → Kind σ e 3 (set depths o (getD depths o 0 - 1))
-    leave-outer a d = leave-kind a 3 (rw (eq-eqb (getD depths o 0) 1 d))
+    -- ---- releases
 
-    pub leave-inner : op ≡ 3 → getD depths o 0 ≢ 1 → Kind σ e 4 (set depths o (getD depths o 0 - 1))
-    leave-inner a d = leave-kind a 4 (rw (ne-eqb (getD depths o 0) 1 d))
+    module _ (a : op ≡ 3) where
+      own : Kept σ e (object σ e) (suc (task σ e)) (getD depths o 0)
+      own =
+          let (h, z) = kept-at (omega arith) in
+          let held = rw (kept-holds z (task σ e) small) at (leave-held σ (u .sound) e (left a)) in
+          rw (eqb→eq h (suc (task σ e)) held) at z
+
+      leave-kind : (k : ℕ) → k ≡ cond (eqb (getD depths o 0) 1) 3 innerKind → k ≡ kind σ e
+      leave-kind k p = p ∙ kind-leave σ e is-op a _ (kept-own small own .0)
+
+      -- A release's lock has a depth above 0.
+      pub leave-deep : 0 < getD depths o 0
+      leave-deep = kept-own small own .1
+
+      -- The kind of a release to depth 0,
+      pub leave-outer : getD depths o 0 ≡ 1 → Kind σ e 3 depths
+      leave-outer d = (
+        omega (arith, u .op-is),
+        leave-kind 3 (rw (eq-eqb (getD depths o 0) 1 d)),
+        unmoved (omega arith) 0 (kept-freed small own (left a) d),
+      )
+
+      -- and of one to above.
+      pub leave-inner : getD depths o 0 ≢ 1 → Kind σ e 4 (set depths o (getD depths o 0 - 1))
+      leave-inner d = (
+        omega (arith, u .op-is),
+        leave-kind 4 (rw (ne-eqb (getD depths o 0) 1 d)),
+        moved (omega arith) _ _ (kept-lowered small own (left a) d),
+      )

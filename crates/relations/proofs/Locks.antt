@@ -13,10 +13,10 @@ use borrow.Author.Tests.{eq-eqb, ne-eqb}
 use Rattle.model.specs.Trace.{Trace, tasks, locks, variables, at, task, object, isAcquire}
 use Rattle.model.specs.Trace.{isRelease}
 use Rattle.model.specs.Relations.{held}
-use Rattle.laws.specs.Walked.{Filled, LatestEvents, Locksets, Matches}
+use Rattle.laws.specs.Walked.{LatestEvents, Locksets, Matches}
 use Rattle.laws.proofs.Tests.{or-l, or-r, is-true, equal?}
-use Rattle.laws.proofs.LatestEvents.{latest-set, latest-keep, filled-set}
-use Rattle.laws.proofs.Locksets.{locksets-held, locksets-acquire, locksets-release, locksets-access}
+use Rattle.laws.proofs.LatestEvents.{latest-set, latest-keep}
+use Rattle.laws.proofs.Locksets.{locksets-acquire, locksets-release, locksets-access}
 use Rattle.laws.specs.EventKinds.{innerKind, kind}
 use Rattle.laws.proofs.EventKinds.{isAcquire-kind, isRelease-kind, isInner-kind}
 use Rattle.laws.proofs.WellFormed.{WellFormed, lock-lt, release-held}
@@ -57,13 +57,6 @@ module _ {σ : Trace} {e k : ℕ} (u : OfKind σ e k) where
 
   module _ {t : ℕ} (is-task : (t < tasks) × (t ≡ task σ e)) (locksets : List ℕ) (z : Locksets σ e locksets)
     where
-      -- What is noted as the held locks of event e.
-      pub held-noted : (table : List ℕ) → Filled (held σ) e table → e < length table
-          → Filled (held σ) (e + 1) (set table e (getD locksets t 0))
-      held-noted table f l =
-          filled-set (held σ) e (getD locksets t 0) table f l
-          (rw (is-task .1) (locksets-held σ e locksets z (omega arith)))
-
       -- An acquire's task holds its lock,
       pub acquire-noted : k ≡ 2 → {l : ℕ} → (l < variables) × (l ≡ object σ e)
           → Locksets σ (e + 1) (set locksets t (bitOr (getD locksets t 0) (1 * 2 ^ l % 2 ^ 64)))

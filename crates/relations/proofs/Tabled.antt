@@ -19,14 +19,14 @@ use Rattle.laws.proofs.Locksets.{locksets-start}
 use Rattle.laws.proofs.Relations.{predecessor-below, writer-below, held-lt}
 use Rattle.laws.proofs.Marks.{marked-match, marked-le}
 use Rattle.laws.proofs.Matches.{matches-start, matches-end}
-use Rattle.laws.proofs.LockDepths.{lockDepths-start}
+use Rattle.laws.proofs.Kept.{lockDepths-start}
 use Rattle.relations.specs.Tables.{operation, Tables, Long, Noted}
 
 -- Before event 1 the tables are clear.
 pub noted-start : (σ : Trace) (operations owners objects holding predecessors writers matches : List ℕ)
     → Long operations owners objects holding predecessors writers matches
     → Noted σ 1 operations owners objects holding predecessors writers matches
-    (replicate tasks 0) (replicate variables 0) (replicate locks 0) (replicate tasks 0) (replicate locks 0)
+    (replicate tasks 0) (replicate variables 0) (replicate locks 1) (replicate tasks 0) (replicate locks 0)
 noted-start σ operations owners objects holding predecessors writers matches long = record {
   long = long;
   working = record {
@@ -43,7 +43,7 @@ noted-start σ operations owners objects holding predecessors writers matches lo
   matching-filled = matches-start σ matches;
   latest-event = latest-start (λ f. true) (task σ) tasks;
   latest-write = latest-start (isWrite σ) (object σ) variables;
-  depth = lockDepths-start σ;
+  depth = lockDepths-start;
   lockset = locksets-start σ;
   latest-acquire = latest-start (isAcquire σ) (object σ) locks;
 }

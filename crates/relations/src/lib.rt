@@ -79,11 +79,24 @@ fn note_access(records: &[u8], e: usize, writers: &mut [u16], writes: &mut [u16]
     }
 }
 
-// The kind of event e: its operation, or 4 for an inner acquire or release, by the depth of its lock. The
-// depths are then those after the event.
-fn kind_of(records: &[u8], e: usize, depths: &mut [u16]) -> u8
+// Notes event e's held locks, those of its task: their mask.
+fn note_held(records: &[u8], e: usize, holding: &mut [u64], locksets: &[u64]) -> u64
     requires { ⌜ (1 ≤ e) × (2 * e ≤ length (now records)) × (e < tableLength)
-        × (checkEvents (decodeAll (now records)) .refusal ≡ 0)
+        × (length (now holding) ≡ tableLength) × Filled (held (decodeAll (now records))) e (now holding)
+        × Locksets (decodeAll (now records)) e (now locksets) ⌝ }
+    ensures { λ r. ⌜ (r ≡ held (decodeAll (now (records .entry))) e)
+        × Filled (held (decodeAll (now (records .entry)))) (e + 1) (now (holding .exit)) ⌝ }
+{
+    let mask = locksets[recording::task(records, e) as usize];
+    holding[e] = mask;
+    mask
+}
+
+// The kind of event e: its operation, or 4 for an inner acquire, whose lock is in the mask of its held locks,
+// or an inner release, whose lock is at a depth above 1. The depths are then those after the event.
+fn kind_of(records: &[u8], e: usize, mask: u64, depths: &mut [u16]) -> u8
+    requires { ⌜ (1 ≤ e) × (2 * e ≤ length (now records)) × (e < tableLength)
+        × (checkEvents (decodeAll (now records)) .refusal ≡ 0) × (mask ≡ held (decodeAll (now records)) e)
         × LockDepths (decodeAll (now records)) e (now depths) ⌝ }
     ensures { λ r. ⌜ (at (decodeAll (now (records .entry))) e .op < 4)
         × (r ≡ kind (decodeAll (now (records .entry))) e)
@@ -94,35 +107,30 @@ fn kind_of(records: &[u8], e: usize, depths: &mut [u16]) -> u8
         return op;
     }
     let l = recording::object(records, e) as usize;
-    let d = depths[l];
     if op == 2 {
-        depths[l] = d + 1;
-        if d == 0 {
+        if !recording::in_mask(mask, l as u64) {
             return 2;
         }
+        depths[l] = depths[l] + 1;
         return 4;
     }
-    depths[l] = d - 1;
-    if d == 1 {
+    if depths[l] == 1 {
         return 3;
     }
+    depths[l] = depths[l] - 1;
     4
 }
 
-// Notes event e's held locks: those of its task, to which an outer acquire then adds its lock, and from which
-// an outer release takes it.
-fn note_held(records: &[u8], e: usize, k: u8, holding: &mut [u64], locksets: &mut [u64])
-    requires { ⌜ (1 ≤ e) × (2 * e ≤ length (now records)) × (e < tableLength)
+// Notes the locks of event e's task after it: an outer acquire adds its lock, and an outer release takes it.
+fn note_lockset(records: &[u8], e: usize, k: u8, locksets: &mut [u64])
+    requires { ⌜ (1 ≤ e) × (2 * e ≤ length (now records))
         × (at (decodeAll (now records)) e .op < 4) × (k ≡ kind (decodeAll (now records)) e)
-        × (length (now holding) ≡ tableLength) × (checkEvents (decodeAll (now records)) .refusal ≡ 0)
-        × Filled (held (decodeAll (now records))) e (now holding)
+        × (checkEvents (decodeAll (now records)) .refusal ≡ 0)
         × Locksets (decodeAll (now records)) e (now locksets) ⌝ }
-    ensures { λ r. ⌜ Filled (held (decodeAll (now (records .entry)))) (e + 1) (now (holding .exit))
-        × Locksets (decodeAll (now (records .entry))) (e + 1) (now (locksets .exit)) ⌝ }
+    ensures { λ r. ⌜ Locksets (decodeAll (now (records .entry))) (e + 1) (now (locksets .exit)) ⌝ }
 {
     let t = recording::task(records, e) as usize;
     let mask = locksets[t];
-    holding[e] = mask;
     if k == 2 {
         locksets[t] = mask | (1 << (recording::object(records, e) as u64));
         return;
@@ -195,8 +203,9 @@ fn note_locks(
         (object (decodeAll (now (records .entry))))
         (e + 1) (now (acquires .exit)) ⌝ }
 {
-    let k = kind_of(records, e, depths);
-    note_held(records, e, k, holding, locksets);
+    let mask = note_held(records, e, holding, locksets);
+    let k = kind_of(records, e, mask, depths);
+    note_lockset(records, e, k, locksets);
     note_match(records, e, k, matches, acquires);
 }
 
@@ -256,7 +265,7 @@ pub fn fill_tables(
 {
     let mut latest = [0u16; 16];
     let mut writes = [0u16; 1024];
-    let mut depths = [0u16; 64];
+    let mut depths = [1u16; 64];
     let mut locksets = [0u64; 16];
     let mut acquires = [0u16; 64];
     let mut e = 1;

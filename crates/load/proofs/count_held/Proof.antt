@@ -11,7 +11,7 @@ use Rattle.model.specs.Recording.{decodeAll}
 use Rattle.model.specs.Calls.Load.{isHeldAfter, heldEvents}
 use Rattle.laws.specs.Walked.{LockDepth}
 use Rattle.laws.proofs.Trace.{decodeAll-length}
-use Rattle.laws.proofs.LockDepths.{lockDepth-start}
+use Rattle.laws.proofs.LockDepth.{lockDepth-start}
 use Rattle.load.proofs.Laws.{heldBefore, counted, uncounted}
 use Rattle.load.proofs.count_held.Statement.{statement}
 use Rattle.load.proofs.count_held.Tie as tie

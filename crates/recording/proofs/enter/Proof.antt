@@ -2,7 +2,7 @@
 use native.Mathlib.Omega.{arith}
 use borrow.Author.Needs.{needs}
 use Rattle.model.specs.Recording.{decodeAll}
-use Rattle.recording.proofs.Locks.{Locked, depth-below, enter-refused, enter-first, enter-again}
+use Rattle.recording.proofs.Locks.{Locked, depth-fits, enter-refused, enter-first, enter-again}
 use Rattle.recording.proofs.enter.Statement.{statement}
 use Rattle.recording.proofs.enter.Tie as tie
 
@@ -36,6 +36,24 @@ cast-l c = search needs
 slice-read-if1 : tie.Need-slice-read-if1
 slice-read-if1 c = search needs
 
+slice-write-holders : tie.Need-slice-write-holders
+slice-write-holders c = search needs
+
+same-length : tie.Need-same-length
+same-length c = search needs
+
+returns : tie.Need-returns
+returns c =
+    let u = c .before .before in
+    enter-first (unpacked u) (start u .pre .3) (c .if1 .taken)
+
+slice-read-if2 : tie.Need-slice-read-if2
+slice-read-if2 c = search needs
+
+returns-2 : tie.Need-returns-2
+returns-2 c =
+    enter-refused (unpacked (c .before .before .before .before)) (c .before .before .if1 .left) (c .if2 .taken)
+
 mul-depths : tie.Need-mul-depths
 mul-depths c = search needs
 
@@ -44,8 +62,8 @@ slice-read-depths c = search needs
 
 add-depths : tie.Need-add-depths
 add-depths c =
-    let u = c .before .before .before in
-    omega (arith, depth-below (unpacked u) (start u .pre .0), start u .pre .2)
+    let u = c .before .before .before .before .before in
+    omega (arith, depth-fits (unpacked u) (start u .pre .0), start u .pre .2)
 
 mul-depths-2 : tie.Need-mul-depths-2
 mul-depths-2 c = search needs
@@ -53,41 +71,13 @@ mul-depths-2 c = search needs
 slice-write-depths : tie.Need-slice-write-depths
 slice-write-depths c = search needs
 
-same-length : tie.Need-same-length
-same-length c = search needs
-
-returns : tie.Need-returns
-returns c =
-    let u = c .before .before .before in
-    enter-again (unpacked u) (start u .pre .3) (c .before .if1 .taken)
-
-slice-read-if2 : tie.Need-slice-read-if2
-slice-read-if2 c = search needs
-
-returns-2 : tie.Need-returns-2
-returns-2 c =
-    let u = c .before .before .before .before in
-    enter-refused (unpacked u) (c .if2 .taken) (c .before .before .if1 .left)
-
-slice-write-holders : tie.Need-slice-write-holders
-slice-write-holders c = search needs
-
-mul-depths-3 : tie.Need-mul-depths-3
-mul-depths-3 c = search needs
-
-slice-write-depths-2 : tie.Need-slice-write-depths-2
-slice-write-depths-2 c = search needs
-
 same-length-2 : tie.Need-same-length-2
 same-length-2 c = search needs
 
-same-length-3 : tie.Need-same-length-3
-same-length-3 c = search needs
-
 returns-3 : tie.Need-returns-3
 returns-3 c =
-    let u = c .before .before .before .before in
-    enter-first (unpacked u) (start u .pre .3) (c .if2 .left)
+    let u = c .before .before .before .before .before in
+    enter-again (unpacked u) (start u .pre .3) (c .before .if2 .left)
 
 pub enter-spec : {M : Type 1} → statement M
 enter-spec =
@@ -98,18 +88,15 @@ enter-spec =
     object-requires
     cast-l
     slice-read-if1
+    slice-write-holders
+    same-length
+    returns
+    slice-read-if2
+    returns-2
     mul-depths
     slice-read-depths
     add-depths
     mul-depths-2
     slice-write-depths
-    same-length
-    returns
-    slice-read-if2
-    returns-2
-    slice-write-holders
-    mul-depths-3
-    slice-write-depths-2
     same-length-2
-    same-length-3
     returns-3)

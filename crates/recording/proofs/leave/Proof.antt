@@ -39,21 +39,11 @@ returns : tie.Need-returns
 returns c =
     leave-refused (unpacked (c .before)) (c .if1 .taken)
 
-mul-d : tie.Need-mul-d
-mul-d c = search needs
+mul-if2 : tie.Need-mul-if2
+mul-if2 c = search needs
 
-slice-read-d : tie.Need-slice-read-d
-slice-read-d c = search needs
-
-sub-d : tie.Need-sub-d
-sub-d c =
-    leave-deep (unpacked (c .before .before)) (c .before .if1 .left)
-
-mul-depths : tie.Need-mul-depths
-mul-depths c = search needs
-
-slice-write-depths : tie.Need-slice-write-depths
-slice-write-depths c = search needs
+slice-read-if2 : tie.Need-slice-read-if2
+slice-read-if2 c = search needs
 
 slice-write-holders : tie.Need-slice-write-holders
 slice-write-holders c = search needs
@@ -61,21 +51,34 @@ slice-write-holders c = search needs
 same-length : tie.Need-same-length
 same-length c = search needs
 
-same-length-2 : tie.Need-same-length-2
-same-length-2 c = search needs
-
 returns-2 : tie.Need-returns-2
 returns-2 c =
     let u = c .before .before .before in
     leave-freed (unpacked u) (c .before .before .if1 .left) (start u .pre .2) (c .if2 .taken)
 
-same-length-3 : tie.Need-same-length-3
-same-length-3 c = search needs
+mul-depths : tie.Need-mul-depths
+mul-depths c = search needs
+
+slice-read-depths : tie.Need-slice-read-depths
+slice-read-depths c = search needs
+
+sub-depths : tie.Need-sub-depths
+sub-depths c =
+    leave-deep (unpacked (c .before .before .before .before)) (c .before .before .before .if1 .left)
+
+mul-depths-2 : tie.Need-mul-depths-2
+mul-depths-2 c = search needs
+
+slice-write-depths : tie.Need-slice-write-depths
+slice-write-depths c = search needs
+
+same-length-2 : tie.Need-same-length-2
+same-length-2 c = search needs
 
 returns-3 : tie.Need-returns-3
 returns-3 c =
-    let u = c .before .before .before in
-    leave-kept (unpacked u) (c .before .before .if1 .left) (start u .pre .2) (c .if2 .left)
+    let u = c .before .before .before .before in
+    leave-kept (unpacked u) (c .before .before .before .if1 .left) (start u .pre .2) (c .before .if2 .left)
 
 pub leave-spec : {M : Type 1} → statement M
 leave-spec =
@@ -87,14 +90,15 @@ leave-spec =
     task-requires
     add-if1
     returns
-    mul-d
-    slice-read-d
-    sub-d
-    mul-depths
-    slice-write-depths
+    mul-if2
+    slice-read-if2
     slice-write-holders
     same-length
-    same-length-2
     returns-2
-    same-length-3
+    mul-depths
+    slice-read-depths
+    sub-depths
+    mul-depths-2
+    slice-write-depths
+    same-length-2
     returns-3)

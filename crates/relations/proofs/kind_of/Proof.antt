@@ -1,11 +1,14 @@
--- `relations::kind_of` meets its contract: the depth of the lock decides. Assumes nothing.
+-- `relations::kind_of` meets its contract: the held locks decide on an acquire, and the depth of its lock on a
+-- release. Assumes nothing.
+use mathlib.Core.Path.{sym, _∙_}
 use native.Mathlib.Omega.{arith}
 use borrow.Author.Needs.{needs}
 use Rattle.model.specs.Recording.{decodeAll}
+use Rattle.laws.proofs.Tests.{not-true, not-false}
 use Rattle.laws.proofs.Trace.{record-event}
 use Rattle.laws.proofs.Questions.{events-sound}
-use Rattle.relations.proofs.KindOf.{Coming, access-kind, lock-small, depth-below, leave-deep}
-use Rattle.relations.proofs.KindOf.{enter-outer, enter-inner, leave-outer, leave-inner}
+use Rattle.relations.proofs.KindOf.{Coming, access-kind, lock-small, depth-fits, enter-outer, enter-inner}
+use Rattle.relations.proofs.KindOf.{leave-deep, leave-outer, leave-inner}
 use Rattle.relations.proofs.kind_of.Statement.{statement}
 use Rattle.relations.proofs.kind_of.Tie as tie
 
@@ -23,7 +26,7 @@ unpacked c =
       sound = events-sound (s .args .records .now) (s .pre .3);
       event = record-event (s .args .records .now) (s .args .e) (s .pre .0, s .pre .1);
       op-is = c .operation .ensures;
-      depths-are = s .pre .4;
+      depths-are = s .pre .5;
     }
 
 operation-requires : tie.Need-operation-requires
@@ -38,75 +41,91 @@ object-requires c κs = search needs
 cast-l : tie.Need-cast-l
 cast-l c = search needs
 
-mul-d : tie.Need-mul-d
-mul-d c = search needs
+in-mask-requires : tie.Need-in-mask-requires
+in-mask-requires c κs =
+    let small = lock-small (unpacked (c .before .before .before)) (c .before .object .ensures .1) (search needs) in
+    omega arith
 
-slice-read-d : tie.Need-slice-read-d
-slice-read-d c =
-    let u = c .before .before .before in
-    let small = lock-small (unpacked u) (c .before .object .ensures .1) (search needs) in
-    omega (arith, start u .pre .4 .long)
-
-add-depths : tie.Need-add-depths
-add-depths c =
-    let u = c .before .before .before .before in
-    let below = depth-below (unpacked u) (c .before .before .object .ensures .1) (search needs) in
-    omega (arith, start u .pre .2)
+returns-2 : tie.Need-returns-2
+returns-2 c =
+    let u = c .before .before .before .before .before in
+    enter-outer (unpacked u) (c .before .before .before .object .ensures .1) (c .before .before .if2 .taken)
+    (rw (start u .pre .4) at (sym (c .before .in-mask .ensures) ∙ not-true _ (c .if3 .taken)))
 
 mul-depths : tie.Need-mul-depths
 mul-depths c = search needs
 
-slice-write-depths : tie.Need-slice-write-depths
-slice-write-depths c =
-    let u = c .before .before .before .before in
-    let small = lock-small (unpacked u) (c .before .before .object .ensures .1) (search needs) in
-    omega (arith, start u .pre .4 .long)
+slice-read-depths : tie.Need-slice-read-depths
+slice-read-depths c =
+    let u = c .before .before .before .before .before .before in
+    let small = lock-small (unpacked u) (c .before .before .before .before .object .ensures .1) (search needs) in
+    omega (arith, start u .pre .5 .long)
 
-same-length : tie.Need-same-length
-same-length c = search needs
-
-returns-2 : tie.Need-returns-2
-returns-2 c =
-    enter-outer (unpacked (c .before .before .before .before .before))
-    (c .before .before .before .object .ensures .1) (c .before .if2 .taken) (c .if3 .taken)
-
-same-length-2 : tie.Need-same-length-2
-same-length-2 c = search needs
-
-returns-3 : tie.Need-returns-3
-returns-3 c =
-    enter-inner (unpacked (c .before .before .before .before .before))
-    (c .before .before .before .object .ensures .1) (c .before .if2 .taken) (c .if3 .left)
-
-sub-depths : tie.Need-sub-depths
-sub-depths c =
-    leave-deep (unpacked (c .before .before .before .before)) (c .before .before .object .ensures .1)
-    (search needs)
+add-depths : tie.Need-add-depths
+add-depths c =
+    let u = c .before .before .before .before .before .before in
+    let fits = depth-fits (unpacked u) (c .before .before .before .before .object .ensures .1) (search needs) in
+    omega (arith, start u .pre .2)
 
 mul-depths-2 : tie.Need-mul-depths-2
 mul-depths-2 c = search needs
 
-slice-write-depths-2 : tie.Need-slice-write-depths-2
-slice-write-depths-2 c =
+slice-write-depths : tie.Need-slice-write-depths
+slice-write-depths c =
+    let u = c .before .before .before .before .before .before in
+    let small = lock-small (unpacked u) (c .before .before .before .before .object .ensures .1) (search needs) in
+    omega (arith, start u .pre .5 .long)
+
+same-length : tie.Need-same-length
+same-length c = search needs
+
+returns-3 : tie.Need-returns-3
+returns-3 c =
+    let u = c .before .before .before .before .before .before in
+    enter-inner (unpacked u) (c .before .before .before .before .object .ensures .1) (c .before .before .before .if2 .taken)
+    (rw (start u .pre .4) at (sym (c .before .before .in-mask .ensures) ∙ not-false _ (c .before .if3 .left)))
+
+mul-if4 : tie.Need-mul-if4
+mul-if4 c = search needs
+
+slice-read-if4 : tie.Need-slice-read-if4
+slice-read-if4 c =
     let u = c .before .before .before .before in
     let small = lock-small (unpacked u) (c .before .before .object .ensures .1) (search needs) in
-    omega (arith, start u .pre .4 .long)
-
-same-length-3 : tie.Need-same-length-3
-same-length-3 c = search needs
+    omega (arith, start u .pre .5 .long)
 
 returns-4 : tie.Need-returns-4
 returns-4 c =
-    leave-outer (unpacked (c .before .before .before .before .before))
-    (c .before .before .before .object .ensures .1) (search needs) (c .if4 .taken)
+    leave-outer (unpacked (c .before .before .before .before .before)) (c .before .before .before .object .ensures .1) (search needs) (c .if4 .taken)
 
-same-length-4 : tie.Need-same-length-4
-same-length-4 c = search needs
+mul-depths-3 : tie.Need-mul-depths-3
+mul-depths-3 c = search needs
+
+slice-read-depths-2 : tie.Need-slice-read-depths-2
+slice-read-depths-2 c =
+    let u = c .before .before .before .before .before .before in
+    let small = lock-small (unpacked u) (c .before .before .before .before .object .ensures .1) (search needs) in
+    omega (arith, start u .pre .5 .long)
+
+sub-depths : tie.Need-sub-depths
+sub-depths c =
+    leave-deep (unpacked (c .before .before .before .before .before .before)) (c .before .before .before .before .object .ensures .1) (search needs)
+
+mul-depths-4 : tie.Need-mul-depths-4
+mul-depths-4 c = search needs
+
+slice-write-depths-2 : tie.Need-slice-write-depths-2
+slice-write-depths-2 c =
+    let u = c .before .before .before .before .before .before in
+    let small = lock-small (unpacked u) (c .before .before .before .before .object .ensures .1) (search needs) in
+    omega (arith, start u .pre .5 .long)
+
+same-length-2 : tie.Need-same-length-2
+same-length-2 c = search needs
 
 returns-5 : tie.Need-returns-5
 returns-5 c =
-    leave-inner (unpacked (c .before .before .before .before .before))
-    (c .before .before .before .object .ensures .1) (search needs) (c .if4 .left)
+    leave-inner (unpacked (c .before .before .before .before .before .before)) (c .before .before .before .before .object .ensures .1) (search needs) (c .before .if4 .left)
 
 pub kind-of-spec : {M : Type 1} → statement M
 kind-of-spec =
@@ -116,19 +135,22 @@ kind-of-spec =
     returns
     object-requires
     cast-l
-    mul-d
-    slice-read-d
-    add-depths
+    in-mask-requires
+    returns-2
     mul-depths
+    slice-read-depths
+    add-depths
+    mul-depths-2
     slice-write-depths
     same-length
-    returns-2
-    same-length-2
     returns-3
-    sub-depths
-    mul-depths-2
-    slice-write-depths-2
-    same-length-3
+    mul-if4
+    slice-read-if4
     returns-4
-    same-length-4
+    mul-depths-3
+    slice-read-depths-2
+    sub-depths
+    mul-depths-4
+    slice-write-depths-2
+    same-length-2
     returns-5)

@@ -1,18 +1,15 @@
--- How one event of a well-formed trace changes the depth of a lock, whoever holds it, and a table of depths;
--- what they hold is in specs/Walked. Which events are outer ones is read off the depth. Assumes nothing.
+-- How one event of a well-formed trace changes the depth of a lock, whoever holds it; what that is is in
+-- specs/Walked. Assumes nothing.
 use Prim.Native.Nat.{ℕ, suc, _-_, _≤_, _<_}
-use mathlib.Core.Path.{_≡_, refl, sym, _∙_}
+use mathlib.Core.Path.{_≡_, refl}
 use mathlib.Core.Logic.{⊎-elim, _≢_}
 use mathlib.Core.Bool.{false, _||_}
-use mathlib.Core.List.{List}
 use native.Mathlib.Omega.{arith}
 use lib.Dec.{T, eqb, eqb→eq, ltb}
-use lib.ListN.{getD, set, replicate, length-set, length-replicate, getD-replicate}
-use lib.Seq.{getD-set-same, getD-set-other}
 use Rattle.model.specs.Lists.{any, from}
-use Rattle.model.specs.Trace.{Trace, tasks, locks, task, object, enters, leaves, ownDepth}
+use Rattle.model.specs.Trace.{Trace, tasks, task, object, enters, leaves, ownDepth}
 use Rattle.model.specs.Relations.{holds}
-use Rattle.laws.specs.Walked.{Holder, LockDepth, LockDepths}
+use Rattle.laws.specs.Walked.{Holder, LockDepth}
 use Rattle.laws.proofs.Tests.{equal?, or-r}
 use Rattle.laws.proofs.Trace.{enters-event, leaves-event}
 use Rattle.laws.proofs.Depth.{depth-apart, depth-access}
@@ -77,33 +74,3 @@ module _ (σ : Trace) where
   -- A depth is at most the number of earlier events.
   pub lockDepth-fits : {e l d : ℕ} → LockDepth σ e l d → d ≤ e - 1
   lockDepth-fits z = holder-fits σ (z .at)
-
-  -- ---- tables of depths
-
-  -- Before event 1 all are 0.
-  pub lockDepths-start : LockDepths σ 1 (replicate locks 0)
-  lockDepths-start = record {
-    long = length-replicate {A = ℕ} locks 0;
-    at = λ l h. rw (getD-replicate {A = ℕ} locks l 0 0 h) (lockDepth-start l);
-  }
-
-  -- The event's lock gets another depth.
-  pub lockDepths-set : {e d : ℕ} {table : List ℕ} → LockDepths σ e table → object σ e < locks
-      → LockDepth σ (suc e) (object σ e) d → LockDepths σ (suc e) (set table (object σ e) d)
-  lockDepths-set {e} {d} {table} z b n = record {
-    long = length-set table (object σ e) d ∙ z .long;
-    at = λ l k. ⊎-elim (same l) (other l k) (equal? l (object σ e));
-  }
-    where
-      same : (l : ℕ) → l ≡ object σ e → LockDepth σ (suc e) l (getD (set table (object σ e) d) l 0)
-      same l q = rw (q, getD-set-same table (object σ e) d 0 (omega (arith, z .long))) n
-
-      other : (l : ℕ) → l < locks → l ≢ object σ e
-          → LockDepth σ (suc e) l (getD (set table (object σ e) d) l 0)
-      other l k m =
-          rw (getD-set-other table (object σ e) l d 0 m) (lockDepth-apart (λ q. m (sym q)) (z .at l k))
-
-  -- A read or a write leaves them.
-  pub lockDepths-access : {e : ℕ} {table : List ℕ} → enters σ e ≡ false → leaves σ e ≡ false
-      → LockDepths σ e table → LockDepths σ (suc e) table
-  lockDepths-access a r z = record { long = z .long; at = λ l h. lockDepth-access a r (z .at l h) }

@@ -1,12 +1,12 @@
--- `deadlock::in_mask` meets its contract: the lowest bit of the shifted mask. Assumes nothing.
+-- `recording::in_mask` meets its contract: the lowest bit of the shifted mask. Assumes nothing.
 use Prim.Native.Nat.{ℕ, _/_, _^_}
 use mathlib.Core.Path.{ap}
 use borrow.Author.Needs.{needs}
 use lib.Bits.{and-mask}
 use lib.Dec.{eqb}
 use Rattle.model.specs.Lists.{hasBit}
-use Rattle.deadlock.proofs.in_mask.Statement.{statement}
-use Rattle.deadlock.proofs.in_mask.Tie as tie
+use Rattle.recording.proofs.in_mask.Statement.{statement}
+use Rattle.recording.proofs.in_mask.Tie as tie
 
 shr-result : tie.Need-shr-result
 shr-result c = search needs
