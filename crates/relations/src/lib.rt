@@ -34,9 +34,12 @@ fn note_record(
         × Filled (task (decodeAll (now (records .entry)))) (e + 1) (now (tasks .exit))
         × Filled (object (decodeAll (now (records .entry)))) (e + 1) (now (objects .exit)) ⌝ }
 {
-    operations[e] = recording::operation(records, e);
-    tasks[e] = recording::task(records, e);
-    objects[e] = recording::object(records, e);
+    let op = recording::operation(records, e);
+    let t = recording::task(records, e);
+    let o = recording::object(records, e);
+    operations[e] = op;
+    tasks[e] = t;
+    objects[e] = o;
 }
 
 // Notes event e's predecessor: the latest event of its task.

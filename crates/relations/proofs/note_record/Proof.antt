@@ -10,17 +10,17 @@ use Rattle.relations.proofs.note_record.Tie as tie
 operation-requires : tie.Need-operation-requires
 operation-requires c κs = search needs
 
-slice-write-operations : tie.Need-slice-write-operations
-slice-write-operations c = search needs
-
 task-requires : tie.Need-task-requires
 task-requires c κs = search needs
 
-slice-write-tasks : tie.Need-slice-write-tasks
-slice-write-tasks c = search needs
-
 object-requires : tie.Need-object-requires
 object-requires c κs = search needs
+
+slice-write-operations : tie.Need-slice-write-operations
+slice-write-operations c = search needs
+
+slice-write-tasks : tie.Need-slice-write-tasks
+slice-write-tasks c = search needs
 
 mul-objects : tie.Need-mul-objects
 mul-objects c = search needs
@@ -56,10 +56,10 @@ note-record-spec =
     tie.close
     (tie.spec
     operation-requires
-    slice-write-operations
     task-requires
-    slice-write-tasks
     object-requires
+    slice-write-operations
+    slice-write-tasks
     mul-objects
     slice-write-objects
     same-length
