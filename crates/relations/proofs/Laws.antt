@@ -68,13 +68,7 @@ module _ (σ : Trace) (e op v : ℕ) (is-op : (op < 4) × (op ≡ at σ e .op))
 
 -- ---- held locks
 
-module _ (σ : Trace) (e t : ℕ) (is-task : (t < tasks) × (t ≡ task σ e)) (locksets : List ℕ)
-    (z : Locksets σ e locksets) where
-  -- The mask of the event's task is that of its held locks,
-  pub held-mask : getD locksets t 0 ≡ held σ e
-  held-mask = rw (is-task .1) (locksets-held σ e locksets z (omega arith))
-
-  -- which is what is noted.
-  pub held-noted : (table : List ℕ) → Filled (held σ) e table → e < length table
-      → Filled (held σ) (e + 1) (set table e (getD locksets t 0))
-  held-noted table f l = filled-set (held σ) e (getD locksets t 0) table f l held-mask
+-- The mask of the event's task is that of its held locks.
+pub held-mask : (σ : Trace) (e t : ℕ) → (t < tasks) × (t ≡ task σ e) → (locksets : List ℕ)
+    → Locksets σ e locksets → getD locksets t 0 ≡ held σ e
+held-mask σ e t is-task locksets z = rw (is-task .1) (locksets-held σ e locksets z (omega arith))

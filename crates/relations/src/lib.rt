@@ -82,17 +82,13 @@ fn note_access(records: &[u8], e: usize, writers: &mut [u16], writes: &mut [u16]
     }
 }
 
-// Notes event e's held locks, those of its task: their mask.
-fn note_held(records: &[u8], e: usize, holding: &mut [u64], locksets: &[u64]) -> u64
-    requires { ⌜ (1 ≤ e) × (2 * e ≤ length (now records)) × (e < tableLength)
-        × (length (now holding) ≡ tableLength) × Filled (held (decodeAll (now records))) e (now holding)
+// Event e's held locks, those of its task, as a mask.
+fn held_locks(records: &[u8], e: usize, locksets: &[u64]) -> u64
+    requires { ⌜ (1 ≤ e) × (2 * e ≤ length (now records))
         × Locksets (decodeAll (now records)) e (now locksets) ⌝ }
-    ensures { λ r. ⌜ (r ≡ held (decodeAll (now (records .entry))) e)
-        × Filled (held (decodeAll (now (records .entry)))) (e + 1) (now (holding .exit)) ⌝ }
+    ensures { λ r. ⌜ r ≡ held (decodeAll (now (records .entry))) e ⌝ }
 {
-    let mask = locksets[recording::task(records, e) as usize];
-    holding[e] = mask;
-    mask
+    locksets[recording::task(records, e) as usize]
 }
 
 // The kind of event e: its operation, or 4 for an inner acquire, whose lock is in the mask of its held locks,
@@ -206,10 +202,11 @@ fn note_locks(
         (object (decodeAll (now (records .entry))))
         (e + 1) (now (acquires .exit)) ⌝ }
 {
-    let mask = note_held(records, e, holding, locksets);
+    let mask = held_locks(records, e, locksets);
     let k = kind_of(records, e, mask, depths);
     note_lockset(records, e, k, locksets);
     note_match(records, e, k, matches, acquires);
+    holding[e] = mask;
 }
 
 // Notes event e in every table.
