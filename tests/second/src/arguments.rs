@@ -3,7 +3,7 @@
 use crate::closure::put_into_set;
 use crate::patterns::{is_deadlock, Search};
 use crate::random::Random;
-use crate::recording::{bytes_from, Recording};
+use crate::recording::{bytes_from, Recording, LOCKS};
 
 /// A largest size: mostly 0, which stands for 16, or 2 to 16, else one that question 8 refuses.
 pub fn size(random: &mut Random) -> u64 {
@@ -14,13 +14,29 @@ pub fn size(random: &mut Random) -> u64 {
     }
 }
 
-/// An event number: mostly 1 to n, else one that question 9 refuses.
-pub fn event(random: &mut Random, n: usize) -> u64 {
+/// An event number: mostly 1 to n, at times of a lock that is taken again, else one that question 9 refuses.
+pub fn event(random: &mut Random, recording: &Recording) -> u64 {
+    let n = recording.count();
+    let again = events_of_locks_taken_again(recording);
+    if !again.is_empty() && random.chance(50) {
+        return random.pick(&again) as u64;
+    }
     if n > 0 && random.chance(85) {
         return random.between(1, n) as u64;
     }
     let n = n as u64;
     random.pick(&[0, 0, 1, n, n + 1, n + 1, n + 2, 4096, 65_536, 65_537, (1 << 32) + 1, u64::MAX])
+}
+
+/// The acquires and releases, outer and inner, of the locks that have inner ones.
+fn events_of_locks_taken_again(recording: &Recording) -> Vec<usize> {
+    let numbers = 1..=recording.count();
+    let mut taken_again = [false; LOCKS];
+    numbers
+        .clone()
+        .filter(|&e| recording.is_inner(e))
+        .for_each(|e| taken_again[recording.event(e).object] = true);
+    numbers.filter(|&e| recording.event(e).uses_lock() && taken_again[recording.event(e).object]).collect()
 }
 
 /// A lock number: mostly one that occurs, else any or one that question 14 refuses.
@@ -36,29 +52,6 @@ pub fn lock(random: &mut Random, recording: &Recording) -> u64 {
     }
 }
 
-/// A number n of events for a load, mostly one that has exact halves, which are at multiples of 8 only.
-pub fn event_count(random: &mut Random) -> usize {
-    match random.below(10) {
-        0..=5 => random.pick(&[8, 16, 24, 40, 56, 72, 200, 400]),
-        6 => random.pick(&[1000, 4000, 4093, 4095]),
-        _ => random.between(1, 300),
-    }
-}
-
-/// A number h of those n events: mostly one with 100 × h / n at a half or, where none is, nearest to one;
-/// else nearest to a half without being one, or any.
-pub fn held_count(random: &mut Random, n: usize) -> usize {
-    let from_half = |h: usize| (200 * h % (2 * n)).abs_diff(n);
-    let least = match random.below(10) {
-        0..=6 => 0,
-        7..=8 => 1,
-        _ => return random.between(0, n),
-    };
-    let nearest = (0..=n).map(from_half).filter(|&distance| distance >= least).min();
-    let choices: Vec<usize> = (0..=n).filter(|&h| Some(from_half(h)) == nearest).collect();
-    random.pick(&choices)
-}
-
 /// A set of events: few members or many, at times of a wrong length or with bits after event n.
 pub fn set(random: &mut Random, recording: &Recording) -> Vec<u8> {
     let n = recording.count();
@@ -69,6 +62,9 @@ pub fn set(random: &mut Random, recording: &Recording) -> Vec<u8> {
     }
     if n > 0 && random.chance(15) {
         put_into_set(&mut set, random.pick(&[1, n]));
+    }
+    if random.chance(40) {
+        members_taken_again(random, recording).iter().for_each(|&event| put_into_set(&mut set, event));
     }
     let bits = 8 * set.len();
     if bits > n && random.chance(10) {
@@ -81,6 +77,23 @@ pub fn set(random: &mut Random, recording: &Recording) -> Vec<u8> {
         _ => {}
     }
     set
+}
+
+/// Two outer acquires of a lock that is taken again, at times one and the same, or with one more event of it.
+fn members_taken_again(random: &mut Random, recording: &Recording) -> Vec<usize> {
+    let again = events_of_locks_taken_again(recording);
+    if again.is_empty() {
+        return Vec::new();
+    }
+    let one = random.pick(&again);
+    let is_outer_acquire = |&e: &usize| recording.is_outer_acquire(e);
+    let same_lock = |&e: &usize| recording.event(e).object == recording.event(one).object;
+    let acquires: Vec<usize> = again.into_iter().filter(is_outer_acquire).filter(same_lock).collect();
+    let mut members = vec![random.pick(&acquires), random.pick(&acquires)];
+    if random.chance(40) {
+        members.push(one);
+    }
+    members
 }
 
 /// The length of lent bytes where so many are written: exact, short, longer or none.
@@ -163,6 +176,11 @@ pub fn changed_pattern(random: &mut Random, pattern: &[usize], recording: &Recor
     let n = recording.count();
     let mut list = pattern.to_vec();
     let index = random.below(list.len());
+    let inner_acquires = inner_acquires_like(recording, list[index]);
+    if !inner_acquires.is_empty() && random.chance(30) {
+        list[index] = random.pick(&inner_acquires);
+        return bytes_from(&list);
+    }
     match random.below(15) {
         0..=1 => list.rotate_left(index),
         2 => list.reverse(),
@@ -180,4 +198,19 @@ pub fn changed_pattern(random: &mut Random, pattern: &[usize], recording: &Recor
         _ => return [bytes_from(&list), random.bytes(1)].concat(),
     }
     bytes_from(&list)
+}
+
+/// The inner acquires of a pattern event's lock by its task, or of any lock by its task where there are none.
+fn inner_acquires_like(recording: &Recording, event: usize) -> Vec<usize> {
+    let task = recording.event(event).task;
+    let is_inner_acquire = |e: usize| recording.is_inner(e) && recording.is_acquire(e);
+    let of_task = |&e: &usize| is_inner_acquire(e) && recording.event(e).task == task;
+    let of_lock = |&e: &usize| recording.event(e) == recording.event(event);
+    let all: Vec<usize> = (1..=recording.count()).filter(of_task).collect();
+    let alike: Vec<usize> = all.iter().copied().filter(of_lock).collect();
+    if alike.is_empty() {
+        all
+    } else {
+        alike
+    }
 }

@@ -1,8 +1,9 @@
 //! The calls of 01, each complete by itself: questions, result and lent bytes.
 
 use crate::closure::{put_into_set, set_has, Closure};
+use crate::locks::Locks;
 use crate::patterns::{closure_of_predecessors, is_deadlock, is_pattern, Search};
-use crate::recording::{bytes_from, numbers_from, Event, Operation, Recording, Refusal};
+use crate::recording::{bytes_from, numbers_from, Recording, Refusal};
 use crate::relations::Relations;
 use crate::schedule::Schedule;
 use std::cmp::Ordering;
@@ -49,17 +50,13 @@ pub fn held_of_all(recording: &[u8], lock: u64) -> Result<(u64, u64), Refusal> {
     Ok((events_with_lock_held(&recording, lock as usize), recording.count() as u64))
 }
 
-/// "h counts the events after which some task holds it"
+/// "h counts the events after which some task holds it", at whatever depth.
 fn events_with_lock_held(recording: &Recording, lock: usize) -> u64 {
-    let mut held = false;
+    let mut locks = Locks::all_free();
     let mut count = 0;
-    for Event { operation, object, .. } in (1..=recording.count()).map(|e| recording.event(e)) {
-        match operation {
-            Operation::Acquire if object == lock => held = true,
-            Operation::Release if object == lock => held = false,
-            _ => {}
-        }
-        count += u64::from(held);
+    for event in (1..=recording.count()).map(|number| recording.event(number)) {
+        locks.pass(event);
+        count += u64::from(locks.holder(lock).is_some());
     }
     count
 }

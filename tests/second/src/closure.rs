@@ -8,7 +8,7 @@ pub struct Closure<'a> {
     recording: &'a Recording,
     /// Whether event e is a member, at index e.
     member: Vec<bool>,
-    /// For each lock its latest acquire among the members, or 0.
+    /// For each lock its latest outer acquire among the members, or 0.
     latest_acquire: [usize; LOCKS],
 }
 
@@ -31,7 +31,9 @@ impl<'a> Closure<'a> {
 
     /// Adds an event and, until nothing changes, all that 01 demands: "with an event, it has that
     /// event's predecessor and writer, where not 0; with two acquires of one lock, it has the match
-    /// of the earlier one"; stops with false as soon as an avoided event would be added.
+    /// of the earlier one"; 02, job 9: "Only the acquire from depth 0 [counts as acquire] in closure",
+    /// and inner events "follow task order only". Stops with false as soon as an avoided event would be
+    /// added.
     pub fn add(&mut self, event: usize, avoided: &[usize]) -> bool {
         let mut waiting = vec![event];
         while let Some(next) = waiting.pop() {
@@ -45,15 +47,15 @@ impl<'a> Closure<'a> {
             let relations = self.recording.relations(next);
             waiting.push(relations.predecessor);
             waiting.push(relations.writer);
-            if self.recording.is_acquire(next) {
+            if self.recording.is_outer_acquire(next) {
                 waiting.push(self.match_demanded_by(next));
             }
         }
         true
     }
 
-    /// The match that a new member, an acquire, makes necessary: that of the earlier one of it and
-    /// the latest acquire of its lock so far, since all the others have theirs already.
+    /// The match that a new member, an outer acquire, makes necessary: that of the earlier one of it and
+    /// the latest outer acquire of its lock so far, since all the others have theirs already.
     fn match_demanded_by(&mut self, acquire: usize) -> usize {
         let latest = &mut self.latest_acquire[self.recording.event(acquire).object];
         let earlier = acquire.min(*latest);
@@ -97,7 +99,7 @@ mod tests {
     use crate::recording::encode;
     use crate::shapes::{any_events, Class};
 
-    /// The two rules as 01 words them, applied until nothing changes.
+    /// The two rules as 01 words them, over outer acquires, applied until nothing changes.
     fn by_the_words(recording: &Recording, start: &[usize]) -> Vec<usize> {
         let mut set = start.to_vec();
         loop {
@@ -105,7 +107,7 @@ mod tests {
             for &e in &set {
                 wanted.extend([recording.relations(e).predecessor, recording.relations(e).writer]);
                 for &f in set.iter().filter(|&&f| e < f) {
-                    let both = recording.is_acquire(e) && recording.is_acquire(f);
+                    let both = recording.is_outer_acquire(e) && recording.is_outer_acquire(f);
                     if both && recording.event(e).object == recording.event(f).object {
                         wanted.push(recording.relations(e).matching);
                     }

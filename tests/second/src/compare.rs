@@ -1,9 +1,10 @@
 //! The comparison of another implementation's answers with this one's.
 
-use crate::protocol::{answer, held_of_all, written_with_size_0, Answer, BAD_REQUEST, CALLS};
+use crate::protocol::{answer, entries_of, held_of_all, Answer, BAD_REQUEST, CALLS};
+use crate::reentry::Reentry;
 
 /// What was compared: requests by call, answers by refusal number, loads at a half, listings with size 0,
-/// and differences.
+/// locks taken again, and differences.
 #[derive(Default)]
 pub struct Summary {
     calls: [u64; CALLS.len()],
@@ -13,6 +14,7 @@ pub struct Summary {
     halves: [u64; 2],
     /// Accepted listings with size 0, by the size of the largest entry, which is 0 where there is none.
     largest_entries: [u64; 17],
+    reentry: Reentry,
     compared: u64,
     differ: u64,
 }
@@ -39,14 +41,16 @@ impl Summary {
     }
 
     fn count(&mut self, request: &str, own: &Answer) {
-        let name = request.split(' ').next();
-        let call = CALLS.iter().position(|&call| Some(call) == name);
+        let words: Vec<&str> = request.split(' ').collect();
+        let call = CALLS.iter().position(|&call| call == words[0]);
         self.calls[call.expect("an answered call is known")] += 1;
-        self.refusals[own.refusal as usize] += 1;
+        self.refusals[own.refusal.number as usize] += 1;
         self.count_half(request);
-        if let Some(entries) = written_with_size_0(request, own) {
-            self.largest_entries[largest_entry(&entries)] += 1;
+        if let Some((0, entries)) = entries_of(&words, own) {
+            let largest = entries.iter().map(Vec::len).max();
+            self.largest_entries[largest.unwrap_or(0)] += 1;
         }
+        self.reentry.count(request, own);
     }
 
     /// Counts a load whose 100 × h / n is exactly a half above a whole per cent.
@@ -76,12 +80,13 @@ impl Summary {
              of three to fifteen events {more}, of sixteen events {sixteen}"
         );
         format!(
-            "requests: {}\nrefusals: {}\nbad requests: {}\n{}\n{}\n{} compared, {} differ",
+            "requests: {}\nrefusals: {}\nbad requests: {}\n{}\n{}\n{}\n{} compared, {} differ",
             calls.collect::<Vec<_>>().join(", "),
             refusals.collect::<Vec<_>>().join(", "),
             self.bad_requests,
             halves,
             listings,
+            self.reentry.text(),
             self.compared,
             self.differ
         )
@@ -92,16 +97,6 @@ impl Summary {
     fn listings_with_size_0(&self) -> [u64; 4] {
         [0..=16, 2..=2, 3..=15, 16..=16].map(|sizes| self.largest_entries[sizes].iter().sum())
     }
-}
-
-/// The largest size among entries, each "size, then the events", or 0 where there is none.
-fn largest_entry(mut entries: &[usize]) -> usize {
-    let mut largest = 0;
-    while let [size, rest @ ..] = entries {
-        largest = largest.max(*size);
-        entries = &rest[*size..];
-    }
-    largest
 }
 
 #[cfg(test)]

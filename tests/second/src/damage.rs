@@ -1,7 +1,32 @@
-//! Damage to the bytes of a recording.
+//! Damage to a recording: to its locks, and to its bytes.
 
+use crate::locks::outer_events;
 use crate::random::Random;
-use crate::recording::{Event, VARIABLES};
+use crate::recording::{Event, Operation, TASKS, VARIABLES};
+use crate::shapes::LONGEST;
+
+/// Changes a well-formed recording at an acquire or release, mostly an inner one: another task acquires or
+/// releases the lock after it, its own task releases it once more, or a release is missing; if nothing is
+/// refused there, then mostly later.
+pub fn misuse_lock(random: &mut Random, events: &mut Vec<Event>) {
+    let outer = outer_events(events);
+    let with_lock: Vec<usize> = (0..events.len()).filter(|&at| events[at].uses_lock()).collect();
+    let inner: Vec<usize> = with_lock.iter().copied().filter(|&at| !outer[at]).collect();
+    let places = if inner.is_empty() || random.chance(15) { with_lock } else { inner };
+    if places.is_empty() {
+        return;
+    }
+    let at = random.pick(&places);
+    let Event { operation, task, object } = events[at];
+    let other = (task + random.between(1, TASKS - 1)) % TASKS;
+    match random.below(6) {
+        0..=2 => events.insert(at + 1, Event::acquire(other, object)),
+        3 => events.insert(at + 1, Event::release(other, object)),
+        4 if operation == Operation::Release => drop(events.remove(at)),
+        _ => events.insert(at + 1, Event::release(task, object)),
+    }
+    events.truncate(LONGEST);
+}
 
 /// Damages the bytes of a recording in one of many ways, most of which make it ill-formed.
 pub fn damage(random: &mut Random, bytes: &mut Vec<u8>) {

@@ -1,15 +1,15 @@
 //! Random requests over all calls, recordings, arguments and refusals.
 
-use crate::arguments::{changed_pattern, event, event_count, false_pattern, held_count, lock};
-use crate::arguments::{pattern_with_verdict, room, set, size};
+use crate::arguments::{changed_pattern, event, false_pattern, lock, pattern_with_verdict, room, set, size};
 use crate::calls::{self, Listed};
-use crate::damage::damage;
+use crate::damage::{damage, misuse_lock};
+use crate::loads::{event_count, events_with_load, held_count};
 use crate::patterns::closure_of_predecessors;
 use crate::proposals::schedule;
 use crate::protocol::hexadecimal;
 use crate::random::Random;
 use crate::recording::{bytes_from, encode, Event, Recording, Refusal, LOCKS};
-use crate::shapes::{any_events, events_with_load, Class};
+use crate::shapes::{any_events, Class};
 
 /// The most bytes that are lent.
 const MOST_ROOM: usize = 65_536;
@@ -55,17 +55,23 @@ fn class(random: &mut Random) -> Class {
     }
 }
 
-/// A recording, damaged once or more in so many per cent of the cases.
+/// A recording, damaged in so many per cent of the cases.
 fn scene(random: &mut Random, class: Class, damaged: usize) -> Scene {
     let events = any_events(random, class);
     scene_of(random, &events, damaged)
 }
 
-/// The recording of these events, damaged once or more in so many per cent of the cases.
+/// The recording of these events, in so many per cent of the cases damaged once or more, and in half as many
+/// more with a lock misused.
 fn scene_of(random: &mut Random, events: &[Event], damaged: usize) -> Scene {
     let bytes = encode(events);
     let recording = Recording::read(&bytes).unwrap_or_else(|refusal| panic!("ill-formed: {refusal:?}"));
     let mut sent = bytes.clone();
+    if random.chance(damaged / 2) {
+        let mut misused = events.to_vec();
+        misuse_lock(random, &mut misused);
+        sent = encode(&misused);
+    }
     while random.chance(damaged) {
         damage(random, &mut sent);
     }
@@ -74,17 +80,17 @@ fn scene_of(random: &mut Random, events: &[Event], damaged: usize) -> Scene {
 
 fn any_scene(random: &mut Random) -> Scene {
     let class = class(random);
-    scene(random, class, 8)
+    scene(random, class, 6)
 }
 
 fn check(random: &mut Random) -> String {
     let class = class(random);
-    format!("check {}", scene(random, class, 55).sent)
+    format!("check {}", scene(random, class, 45).sent)
 }
 
 fn relations(random: &mut Random) -> String {
     let scene = any_scene(random);
-    format!("relations {} {}", scene.sent, event(random, scene.recording.count()))
+    format!("relations {} {}", scene.sent, event(random, &scene.recording))
 }
 
 /// A load of any recording, or of one made for its load.
@@ -131,7 +137,7 @@ fn scene_to_list(random: &mut Random, size: u64) -> (Scene, Result<Listed, Refus
     let wanted = if class == Class::Small { 1 } else { random.pick(&[1, 1000]) };
     let mut tries_left = 4;
     loop {
-        let scene = scene(random, class, 8);
+        let scene = scene(random, class, 6);
         let listed = calls::list(&scene.bytes, size, &mut [0; MOST_ROOM]);
         let is_poor = listed.is_ok_and(|listed| listed.patterns < wanted);
         if !is_poor || tries_left == 0 || random.chance(25) {

@@ -8,7 +8,7 @@ const HELP: &str = "\
 second answer                     reads requests, a line each, and prints an answer line for each
 second generate SEED COUNT        prints so many random requests
 second compare REQUESTS ANSWERS   compares a file of answers to a file of requests with its own
-second rows                       checks rows A to K
+second rows                       checks rows A to K and the requests' samples
 ";
 
 fn main() -> ExitCode {

@@ -6,11 +6,12 @@ use crate::recording::{Recording, LOCKS};
 /// 01: "A deadlock pattern of size k (2 to 16) is a list of k acquires by k different tasks of k
 /// different locks. The lock of each entry is among the held locks of the next entry, and the last
 /// entry's lock among those of the first. No lock is among the held locks of two entries. Only the
-/// rotation with the smallest event first counts."
+/// rotation with the smallest event first counts."; 02, job 9: "Only the acquire from depth 0 [counts as
+/// acquire] in [...] patterns".
 pub fn is_pattern(recording: &Recording, list: &[usize]) -> bool {
     let size = list.len();
     let is_known = |event: usize| (1..=recording.count()).contains(&event);
-    if !(2..=16).contains(&size) || !list.iter().all(|&e| is_known(e) && recording.is_acquire(e)) {
+    if !(2..=16).contains(&size) || !list.iter().all(|&e| is_known(e) && recording.is_outer_acquire(e)) {
         return false;
     }
     let follows = |i: usize| holds_lock_of(recording, list[(i + 1) % size], list[i]);
@@ -50,9 +51,9 @@ pub type Visitor<'v> = dyn FnMut(&[usize]) -> bool + 'v;
 pub struct Search<'a> {
     recording: &'a Recording,
     largest: usize,
-    /// For each lock the acquires, in ascending order, that have it among their held locks.
+    /// For each lock the outer acquires, in ascending order, that have it among their held locks.
     holders: Vec<Vec<usize>>,
-    /// For a held lock and a lock the latest acquire of the second with the first held, or 0.
+    /// For a held lock and a lock the latest outer acquire of the second with the first held, or 0.
     latest_nesting: Vec<[usize; LOCKS]>,
 }
 
@@ -78,7 +79,7 @@ impl<'a> Search<'a> {
     pub fn new(recording: &'a Recording, largest: usize) -> Search<'a> {
         let mut holders = vec![Vec::new(); LOCKS];
         let mut latest_nesting = vec![[0; LOCKS]; LOCKS];
-        for acquire in (1..=recording.count()).filter(|&e| recording.is_acquire(e)) {
+        for acquire in (1..=recording.count()).filter(|&e| recording.is_outer_acquire(e)) {
             for held in (0..LOCKS).filter(|l| recording.relations(acquire).held >> l & 1 == 1) {
                 holders[held].push(acquire);
                 latest_nesting[held][recording.event(acquire).object] = acquire;
@@ -109,16 +110,16 @@ impl<'a> Search<'a> {
         })
     }
 
-    /// Takes each acquire that can be the first of a pattern, in ascending order.
+    /// Takes each outer acquire that can be the first of a pattern, in ascending order.
     fn each_start(&self, begin: &mut dyn FnMut(&Start) -> bool) -> bool {
-        let nested = |&e: &usize| self.recording.is_acquire(e) && self.recording.relations(e).held != 0;
+        let nested = |&e: &usize| self.recording.is_outer_acquire(e) && self.recording.relations(e).held != 0;
         (1..=self.recording.count()).filter(nested).all(|first| {
             let start = Start { first, entries_missing: self.entries_missing(first) };
             !self.can_be_closed(&start, &[first]) || begin(&start)
         })
     }
 
-    /// Extends a chain by each acquire after the first that holds its last lock, in ascending order,
+    /// Extends a chain by each outer acquire after the first that holds its last lock, in ascending order,
     /// and visits the patterns among the longer chains, none of which begins another.
     fn extend(&self, start: &Start, chain: &Chain<'a>, visit: &mut Visitor) -> bool {
         let candidates = &self.holders[self.last_lock(&chain.events)];
@@ -191,7 +192,7 @@ mod tests {
     use crate::recording::encode;
     use crate::shapes::{any_events, Class};
 
-    /// Every list of up to so many acquires, in order, that is a pattern.
+    /// Every list of up to so many acquires, in order, that is a pattern; inner acquires are tried too.
     fn by_the_words(
         recording: &Recording,
         largest: usize,

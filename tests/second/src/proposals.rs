@@ -1,13 +1,15 @@
 //! Proposed schedules for a pattern: good ones, and ones that break a rule of 01.
 
+use crate::closure::Closure;
+use crate::locks::Locks;
 use crate::patterns::closure_of_predecessors;
 use crate::random::Random;
-use crate::recording::{bytes_from, Operation, Recording, LOCKS, TASKS};
+use crate::recording::{bytes_from, Recording, LOCKS, TASKS};
 
 /// The bytes of a schedule: the events that come before the pattern, in some order, at times spoilt.
 pub fn schedule(random: &mut Random, pattern: &[usize], recording: &Recording) -> Vec<u8> {
     let mut list = closure_of_predecessors(recording, pattern).events();
-    match random.below(20) {
+    match random.below(32) {
         0..=2 => {}
         3..=5 => swap_neighbours(random, &mut list, recording),
         6..=8 => list = merged_again(random, &list, recording),
@@ -19,6 +21,9 @@ pub fn schedule(random: &mut Random, pattern: &[usize], recording: &Recording) -
         15 => list.retain(|event| !pattern.contains(event)),
         16 => list = (1..=random.below(recording.count() + 1)).collect(),
         17 => list.clear(),
+        18..=19 => drop_inner_event(random, &mut list, recording),
+        20..=21 => swap_inner_event(random, &mut list, recording),
+        22..=29 => hand_over(random, &mut list, pattern, recording),
         _ => spoil(random, &mut list, recording.count()),
     }
     let mut bytes = bytes_from(&list);
@@ -42,14 +47,16 @@ fn swap_neighbours(random: &mut Random, list: &mut [usize], recording: &Recordin
     }
 }
 
-/// The same events, each task's in order, in other turns, and acquires where their locks are free.
+/// The same events, each task's in order, in other turns, and acquires where no other task has their locks.
 fn merged_again(random: &mut Random, list: &[usize], recording: &Recording) -> Vec<usize> {
     let of_task = |task: usize| list.iter().rev().copied().filter(move |&e| recording.event(e).task == task);
     let mut waiting: Vec<Vec<usize>> = (0..TASKS).map(|task| of_task(task).collect()).collect();
-    let mut free = [true; LOCKS];
+    let mut locks = Locks::all_free();
     let mut merged = Vec::new();
     loop {
-        let can_be_next = |&e: &usize| !recording.is_acquire(e) || free[recording.event(e).object];
+        let is_blocked =
+            |e: usize| locks.is_held_by_another(recording.event(e).object, recording.event(e).task);
+        let can_be_next = |&e: &usize| !recording.is_acquire(e) || !is_blocked(e);
         let ready: Vec<usize> =
             waiting.iter().filter_map(|events| events.last().copied()).filter(can_be_next).collect();
         if ready.is_empty() {
@@ -57,11 +64,7 @@ fn merged_again(random: &mut Random, list: &[usize], recording: &Recording) -> V
         }
         let number = random.pick(&ready);
         let event = recording.event(number);
-        match event.operation {
-            Operation::Acquire => free[event.object] = false,
-            Operation::Release => free[event.object] = true,
-            Operation::Read | Operation::Write => {}
-        }
+        locks.pass(event);
         merged.push(number);
         waiting[event.task].pop();
     }
@@ -84,6 +87,73 @@ fn extend(random: &mut Random, list: &mut Vec<usize>, pattern: &[usize], recordi
         let event = random.pick(&next);
         listed[event] = true;
         list.push(event);
+    }
+}
+
+/// Adds two tasks' holds of a lock, one after the other, with all that their closure needs, where that is
+/// none of the pattern; mostly the later task then takes the lock before its outer release, which comes late
+/// with the rest of the earlier task's events.
+fn hand_over(random: &mut Random, list: &mut Vec<usize>, pattern: &[usize], recording: &Recording) {
+    for (earlier, later) in handovers(random, recording).into_iter().take(40) {
+        let closure = Closure::of(recording, &[&list[..], &[earlier, later]].concat());
+        if pattern.iter().any(|&event| closure.contains(event)) {
+            continue;
+        }
+        *list = closure.events();
+        if random.chance(75) {
+            let place = |event: usize| list.iter().position(|&listed| listed == event);
+            let release = recording.relations(earlier).matching;
+            if let (Some(from), Some(to)) = (place(release), place(later)) {
+                let task = recording.event(earlier).task;
+                list[from..=to].sort_by_key(|&event| recording.event(event).task == task);
+            }
+        }
+        return;
+    }
+}
+
+/// The outer acquires of a lock, each with the next one of it, by another task, in random order; those with
+/// inner events in the earlier hold, if there are any.
+fn handovers(random: &mut Random, recording: &Recording) -> Vec<(usize, usize)> {
+    let numbers = 1..=recording.count();
+    let mut latest = [0; LOCKS];
+    let mut all = Vec::new();
+    for acquire in numbers.filter(|&e| recording.is_outer_acquire(e)) {
+        let event = recording.event(acquire);
+        let earlier = std::mem::replace(&mut latest[event.object], acquire);
+        if earlier != 0 && recording.event(earlier).task != event.task {
+            all.push((earlier, acquire));
+        }
+    }
+    let has_inner = |&(earlier, _): &(usize, usize)| {
+        let is_of_lock = |e: usize| recording.event(e).object == recording.event(earlier).object;
+        (earlier..recording.relations(earlier).matching).any(|e| recording.is_inner(e) && is_of_lock(e))
+    };
+    let with_inner: Vec<(usize, usize)> = all.iter().copied().filter(has_inner).collect();
+    let chosen = if with_inner.is_empty() { all } else { with_inner };
+    random.permutation(chosen.len()).into_iter().map(|index| chosen[index]).collect()
+}
+
+/// Drops a listed inner event, if there is any: mostly one that is the last of its task in the list.
+fn drop_inner_event(random: &mut Random, list: &mut Vec<usize>, recording: &Recording) {
+    let is_followed = |event: usize| list.iter().any(|&e| recording.relations(e).predecessor == event);
+    let places: Vec<usize> = (0..list.len()).filter(|&at| recording.is_inner(list[at])).collect();
+    let last: Vec<usize> = places.iter().copied().filter(|&at| !is_followed(list[at])).collect();
+    let choices = if last.is_empty() || random.chance(30) { places } else { last };
+    if !choices.is_empty() {
+        list.remove(random.pick(&choices));
+    }
+}
+
+/// Swaps a listed inner event with its predecessor, if there is any.
+fn swap_inner_event(random: &mut Random, list: &mut [usize], recording: &Recording) {
+    let place = |event: usize| list.iter().position(|&listed| listed == event);
+    let inner = (0..list.len()).filter(|&at| recording.is_inner(list[at]));
+    let swaps: Vec<(usize, usize)> =
+        inner.filter_map(|at| Some((place(recording.relations(list[at]).predecessor)?, at))).collect();
+    if !swaps.is_empty() {
+        let (one, other) = random.pick(&swaps);
+        list.swap(one, other);
     }
 }
 

@@ -10,10 +10,10 @@ pub const CALLS: [&str; 10] =
 /// What is answered to a line that is no request.
 pub const BAD_REQUEST: &str = "bad request";
 
-/// The answer to a request, with its refusal number (0 for none).
+/// The answer to a request, with its refusal (number and event 0 for none).
 pub struct Answer {
     pub line: String,
-    pub refusal: u64,
+    pub refusal: Refusal,
 }
 
 /// The answer of the line's call of 01, or none where the line is no request.
@@ -48,18 +48,24 @@ pub fn held_of_all(line: &str) -> Option<(u64, u64)> {
     }
 }
 
-/// The numbers that the line's listing with size 0 wrote according to its answer, or none where the line is
-/// no listing, one with another size, or a refused one.
-pub fn written_with_size_0(line: &str, answer: &Answer) -> Option<Vec<usize>> {
-    let words: Vec<&str> = line.split(' ').collect();
+/// The size and the entries, each the events of one, that the listing of these words wrote according to its
+/// answer, or none where the words are no listing or a refused one.
+pub fn entries_of(words: &[&str], answer: &Answer) -> Option<(u64, Vec<Vec<usize>>)> {
     let answered: Vec<&str> = answer.line.split(' ').collect();
-    let (written, lent) = match (&words[..], &answered[..]) {
-        _ if answer.refusal != 0 => return None,
-        (["list", _, "0", _], [_, _, _, written, lent]) => (written, lent),
-        (["clist", _, "0", _], [written, lent]) => (written, lent),
+    let (size, written, lent) = match (words, &answered[..]) {
+        _ if answer.refusal.number != 0 => return None,
+        (["list", _, size, _], [_, _, _, written, lent]) => (size, written, lent),
+        (["clist", _, size, _], [written, lent]) => (size, written, lent),
         _ => return None,
     };
-    Some(numbers_from(&bytes(lent)?[..number(written)? as usize]))
+    let numbers = numbers_from(&bytes(lent)?[..number(written)? as usize]);
+    let mut rest = &numbers[..];
+    let mut entries = Vec::new();
+    while let [length, others @ ..] = rest {
+        entries.push(others[..*length].to_vec());
+        rest = &others[*length..];
+    }
+    Some((number(size)?, entries))
 }
 
 /// Bytes as lowercase hexadecimal digits, `-` for none.
@@ -72,7 +78,7 @@ pub fn hexadecimal(bytes: &[u8]) -> String {
 }
 
 /// The bytes of a word of lowercase hexadecimal digits, or `-`.
-fn bytes(word: &str) -> Option<Vec<u8>> {
+pub fn bytes(word: &str) -> Option<Vec<u8>> {
     if word == "-" {
         return Some(Vec::new());
     }
@@ -92,7 +98,7 @@ fn digit(character: u8) -> Option<u8> {
 }
 
 /// A decimal number of 64 bits without sign or leading zeros.
-fn number(word: &str) -> Option<u64> {
+pub fn number(word: &str) -> Option<u64> {
     let only_digits = word.bytes().all(|character| character.is_ascii_digit());
     if !only_digits || (word.starts_with('0') && word != "0") {
         return None;
@@ -107,7 +113,7 @@ fn tell<const N: usize>(outcome: Result<[u64; N], Refusal>, lent: Option<&[u8]>)
     let mut words = vec![refusal.number.to_string(), refusal.event.to_string()];
     words.extend(fields.iter().map(u64::to_string));
     words.extend(lent.map(hexadecimal));
-    Answer { line: words.join(" "), refusal: refusal.number }
+    Answer { line: words.join(" "), refusal }
 }
 
 fn check(recording: &[u8]) -> Answer {
@@ -160,11 +166,11 @@ fn c_verdict(recording: &[u8], pattern: &[u8]) -> Answer {
     Answer { line: number.to_string(), refusal: refusal_in_c(number) }
 }
 
-/// The refusal number within a C entry's number, 0 for an even one.
-fn refusal_in_c(number: u64) -> u64 {
+/// The refusal within a C entry's number, number and event 0 for an even one.
+fn refusal_in_c(number: u64) -> Refusal {
     if number % 2 == 1 {
-        number / 2 / 65_536
+        Refusal { number: number / 2 / 65_536, event: number / 2 % 65_536 }
     } else {
-        0
+        Refusal { number: 0, event: 0 }
     }
 }

@@ -1,5 +1,6 @@
 //! The recording of 01: its events and questions 1 to 7.
 
+use crate::locks::{outer_events, Locks};
 use crate::relations::{relations_of, Relations};
 
 /// How many locks there are: "a lock (0 to 63)".
@@ -57,6 +58,16 @@ impl Event {
         (self.operation as usize) << 14 | self.task << 10 | self.object
     }
 
+    /// 01: "T0 a1 means task 0 acquires lock 1".
+    pub fn acquire(task: usize, lock: usize) -> Event {
+        Event { operation: Operation::Acquire, task, object: lock }
+    }
+
+    /// 01: "r releases".
+    pub fn release(task: usize, lock: usize) -> Event {
+        Event { operation: Operation::Release, task, object: lock }
+    }
+
     /// 01: "a lock (0 to 63) for acquire and release, a variable (0 to 1,023) for read and write".
     pub fn uses_lock(self) -> bool {
         self.operation == Operation::Acquire || self.operation == Operation::Release
@@ -85,6 +96,7 @@ pub fn encode(events: &[Event]) -> Vec<u8> {
 /// A well-formed recording with the relations of its events.
 pub struct Recording {
     events: Vec<Event>,
+    outer: Vec<bool>,
     relations: Vec<Relations>,
 }
 
@@ -93,8 +105,9 @@ impl Recording {
     pub fn read(bytes: &[u8]) -> Result<Recording, Refusal> {
         let events = ask_about_bytes(bytes)?;
         ask_event_by_event(&events)?;
-        let relations = relations_of(&events);
-        Ok(Recording { events, relations })
+        let outer = outer_events(&events);
+        let relations = relations_of(&events, &outer);
+        Ok(Recording { events, outer, relations })
     }
 
     /// 01: "event count n in 12 bits (0 to 4,095)".
@@ -116,6 +129,18 @@ impl Recording {
     pub fn is_acquire(&self, number: usize) -> bool {
         self.event(number).operation == Operation::Acquire
     }
+
+    /// 02, job 9: "Only the acquire from depth 0 [counts as acquire] in closure, match, schedules and
+    /// patterns".
+    pub fn is_outer_acquire(&self, number: usize) -> bool {
+        self.is_acquire(number) && self.outer[number - 1]
+    }
+
+    /// An acquire or release that is not outer, 02, job 9: "inner ones have match 0 and follow task order
+    /// only".
+    pub fn is_inner(&self, number: usize) -> bool {
+        self.event(number).uses_lock() && !self.outer[number - 1]
+    }
 }
 
 /// Questions 1 to 3, then the events.
@@ -135,30 +160,29 @@ fn ask_about_bytes(bytes: &[u8]) -> Result<Vec<Event>, Refusal> {
 
 /// Questions 4 to 7: "event by event, the earliest failing event deciding".
 fn ask_event_by_event(events: &[Event]) -> Result<(), Refusal> {
-    let mut holder = [None; LOCKS];
+    let mut locks = Locks::all_free();
     let mut written = [false; VARIABLES];
     for (index, &event) in events.iter().enumerate() {
-        if let Some(number) = first_no(event, &holder, &written) {
+        if let Some(number) = first_no(event, &locks, &written) {
             return Err(Refusal { number, event: index as u64 + 1 });
         }
-        match event.operation {
-            Operation::Read => {}
-            Operation::Write => written[event.object] = true,
-            Operation::Acquire => holder[event.object] = Some(event.task),
-            Operation::Release => holder[event.object] = None,
+        locks.pass(event);
+        if event.operation == Operation::Write {
+            written[event.object] = true;
         }
     }
     Ok(())
 }
 
-/// The first of questions 4 to 7 that is answered "no" for this event.
-fn first_no(event: Event, holder: &[Option<usize>], written: &[bool]) -> Option<u64> {
+/// The first of questions 4 to 7 that is answered "no" for this event; 02, job 9: "Question 5 is "no" only
+/// where another task holds the lock".
+fn first_no(event: Event, locks: &Locks, written: &[bool]) -> Option<u64> {
     if event.uses_lock() && event.object > 63 {
         return Some(4);
     }
     match event.operation {
-        Operation::Acquire if holder[event.object].is_some() => Some(5),
-        Operation::Release if holder[event.object] != Some(event.task) => Some(6),
+        Operation::Acquire if locks.is_held_by_another(event.object, event.task) => Some(5),
+        Operation::Release if locks.holder(event.object) != Some(event.task) => Some(6),
         Operation::Read if !written[event.object] => Some(7),
         _ => None,
     }

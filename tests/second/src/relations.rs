@@ -1,6 +1,7 @@
 //! The relations of 01: held locks, match, writer and predecessor of each event.
 
-use crate::recording::{Event, Operation, TASKS};
+use crate::locks::Locks;
+use crate::recording::{Event, Operation, LOCKS};
 
 /// What 01 tells of one event; event number 0 means "none".
 #[derive(Clone, Copy, Debug, Default, PartialEq, Eq)]
@@ -13,47 +14,45 @@ pub struct Relations {
 }
 
 /// 01: "For one event number: the held locks [...]; the match; the writer; the predecessor.", here
-/// for every event of a well-formed recording in turn.
-pub fn relations_of(events: &[Event]) -> Vec<Relations> {
+/// for every event of a well-formed recording in turn, of which some are outer ones.
+pub fn relations_of(events: &[Event], outer: &[bool]) -> Vec<Relations> {
     let held = held_before(events);
     let of_event = |index: usize| Relations {
         held: held[index],
-        matching: matching(events, index),
+        matching: matching(events, outer, index),
         writer: writer(events, index),
         predecessor: predecessor(events, index),
     };
     (0..events.len()).map(of_event).collect()
 }
 
-/// "the held locks, which are those that the event's own task holds right before it"
+/// "the held locks, which are those that the event's own task holds right before it"; 02, job 9: "Held locks
+/// stay a set.": a lock is among them once, whatever its depth, and an inner acquire's lock is among its own.
 fn held_before(events: &[Event]) -> Vec<u64> {
-    let mut holds = [0u64; TASKS];
+    let mut locks = Locks::all_free();
     let mut before = Vec::new();
-    for event in events {
-        before.push(holds[event.task]);
-        match event.operation {
-            Operation::Acquire => holds[event.task] |= 1 << event.object,
-            Operation::Release => holds[event.task] &= !(1 << event.object),
-            Operation::Read | Operation::Write => {}
-        }
+    for &event in events {
+        let held = (0..LOCKS).filter(|&lock| locks.holder(lock) == Some(event.task));
+        before.push(held.fold(0, |mask, lock| mask | 1 << lock));
+        locks.pass(event);
     }
     before
 }
 
 /// "An acquire's match is the first later release of its lock by its task, or 0. A release's match
-/// is its acquire. Reads and writes have match 0."
-fn matching(events: &[Event], index: usize) -> usize {
+/// is its acquire. Reads and writes have match 0."; 02, job 9: "Only the acquire from depth 0 and the release
+/// to depth 0 count as acquire and release in [...] match [...]; inner ones have match 0".
+fn matching(events: &[Event], outer: &[bool], index: usize) -> usize {
     let Event { operation, task, object } = events[index];
+    let counts =
+        |at: usize, wanted: Operation| outer[at] && events[at] == Event { operation: wanted, task, object };
     match operation {
-        Operation::Acquire => {
-            let release = Event { operation: Operation::Release, task, object };
-            (index + 1..events.len()).find(|&later| events[later] == release).map_or(0, number)
+        Operation::Acquire if outer[index] => {
+            let mut later = index + 1..events.len();
+            later.find(|&at| counts(at, Operation::Release)).map_or(0, number)
         }
-        Operation::Release => {
-            let acquire = Event { operation: Operation::Acquire, task, object };
-            latest_before(index, |earlier| events[earlier] == acquire)
-        }
-        Operation::Read | Operation::Write => 0,
+        Operation::Release if outer[index] => latest_before(index, |at| counts(at, Operation::Acquire)),
+        _ => 0,
     }
 }
 

@@ -1,6 +1,7 @@
 //! Rows A to K of 01 and the sizes of a listing, as the requests of 02 have changed them, as statements about
-//! the calls.
+//! the calls; locks taken again by their holder are in `again`.
 
+use crate::again;
 use crate::calls::{check, close, list, load, schedule, verdict, witness, Listed, Witnessed};
 use crate::closure::put_into_set;
 use crate::protocol::hexadecimal;
@@ -19,11 +20,12 @@ const G: &str = "T0 a0 r0 W0 W0 W0 W0 W0 W0";
 /// The names of the rows' statements that fail, 01: "Rows A to K are proved together, from the
 /// definitions, as a single tabulated fact"; a row that a request of 02 has changed is as it is there.
 pub fn failing() -> Vec<&'static str> {
-    let statements = [row_a(), row_b_to_d(), row_e(), row_f(), sizes(), row_g(), row_h_to_k()].concat();
+    let rows = [row_a(), row_b_to_d(), row_e(), row_f(), sizes(), row_g(), row_h_to_k()].concat();
+    let statements = [rows, again::statements()].concat();
     statements.into_iter().filter(|(_, holds)| !holds).map(|(name, _)| name).collect()
 }
 
-type Statements = Vec<(&'static str, bool)>;
+pub type Statements = Vec<(&'static str, bool)>;
 
 fn row_a() -> Statements {
     let text = "100880008001c001c00084018400c400c401";
@@ -112,14 +114,14 @@ fn row_h_to_k() -> Statements {
         ("H: empty", lists(&[0x10, 0x00], 0, &[])),
         ("I: 4 at 1", check(&[0x10, 0x01, 0x80, 0x40]) == refused(4, 1)),
         ("I: accepted", check(&[0x10, 0x01, 0x80, 0x3f]) == Ok(())),
-        ("J: 5 at 2", check(&[0x10, 0x02, 0x80, 0x00, 0x80, 0x00]) == refused(5, 2)),
+        ("J: accepted", check(&[0x10, 0x02, 0x80, 0x00, 0x80, 0x00]) == Ok(())),
         ("K: 7 at 1", check(&[0x10, 0x01, 0x00, 0x00]) == refused(7, 1)),
         ("K: 3 at 0", check(&[0x10, 0x01]) == refused(3, 0)),
     ]
 }
 
 /// The bytes of a recording in 01's notation.
-fn row(text: &str) -> Vec<u8> {
+pub fn row(text: &str) -> Vec<u8> {
     let mut task = 0;
     let mut events = Vec::new();
     for word in text.replace(',', "").split(' ') {
@@ -164,7 +166,7 @@ fn held(h: usize, n: usize) -> Vec<u8> {
 }
 
 /// Whether these patterns are listed, and the bytes after the written ones unchanged.
-fn lists(recording: &[u8], size: u64, patterns: &[&[usize]]) -> bool {
+pub fn lists(recording: &[u8], size: u64, patterns: &[&[usize]]) -> bool {
     let entries = patterns.iter().flat_map(|pattern| [&[pattern.len()], *pattern].concat());
     let expected = bytes_from(&entries.collect::<Vec<_>>());
     let mut out = [7; 100];
@@ -173,7 +175,7 @@ fn lists(recording: &[u8], size: u64, patterns: &[&[usize]]) -> bool {
 }
 
 /// Whether these events are the witness of a deadlock.
-fn witnesses(recording: &[u8], pattern: &[usize], events: &[usize]) -> bool {
+pub fn witnesses(recording: &[u8], pattern: &[usize], events: &[usize]) -> bool {
     let expected = bytes_from(events);
     let mut out = [7; 100];
     let witnessed = Witnessed { deadlock: true, bytes: expected.len() as u64 };
@@ -191,7 +193,7 @@ fn refuses_unchanged(number: u64, recording: &[u8], size: u64, room: usize) -> b
 }
 
 /// Whether the closure of the first events is the second ones.
-fn closes(recording: &[u8], events: &[usize], closure: &[usize]) -> bool {
+pub fn closes(recording: &[u8], events: &[usize], closure: &[usize]) -> bool {
     let set_of = |members: &[usize]| {
         let mut set = vec![0; (recording.len() / 2 - 1).div_ceil(8)];
         members.iter().for_each(|&event| put_into_set(&mut set, event));

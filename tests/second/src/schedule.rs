@@ -23,7 +23,9 @@ impl<'a> Schedule<'a> {
         Some(Schedule { recording, list, place })
     }
 
-    /// 01: "It is order-keeping if:" and the four conditions that follow.
+    /// 01: "It is order-keeping if:" and the four conditions that follow; 02, job 9: "Only the acquire from
+    /// depth 0 and the release to depth 0 count as acquire and release in [...] schedules [...]; inner ones
+    /// [...] follow task order only".
     pub fn is_order_keeping(&self) -> bool {
         self.keeps_task_order()
             && self.acquires_free_locks()
@@ -83,10 +85,10 @@ impl<'a> Schedule<'a> {
         self.acquires_by_lock().iter().all(|acquires| acquires.is_sorted())
     }
 
-    /// For each lock its listed acquires, in the list's order.
+    /// For each lock its listed outer acquires, in the list's order: those that count.
     fn acquires_by_lock(&self) -> Vec<Vec<usize>> {
         let mut acquires = vec![Vec::new(); LOCKS];
-        for &event in self.list.iter().filter(|&&e| self.recording.is_acquire(e)) {
+        for &event in self.list.iter().filter(|&&e| self.recording.is_outer_acquire(e)) {
             acquires[self.recording.event(event).object].push(event);
         }
         acquires

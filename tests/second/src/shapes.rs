@@ -1,10 +1,11 @@
 //! Random well-formed recordings in several styles.
 
+use crate::inner::{with_inner_pairs, with_towers, with_turns_before};
 use crate::random::Random;
 use crate::recording::{Event, Operation, LOCKS, TASKS, VARIABLES};
 
 /// The most events of a recording.
-const LONGEST: usize = 4095;
+pub const LONGEST: usize = 4095;
 
 /// How many events a recording shall have, about.
 #[derive(Clone, Copy, Debug, PartialEq, Eq)]
@@ -16,20 +17,22 @@ pub enum Class {
     Full,
 }
 
-/// A well-formed recording of one of the styles.
+/// A well-formed recording of one of the styles, at times with locks taken again by their holder.
 pub fn any_events(random: &mut Random, class: Class) -> Vec<Event> {
-    let limit = match class {
-        Class::Tiny => random.below(3),
-        Class::Small => random.between(5, 60),
-        Class::Middle => random.between(100, 900),
-        Class::Large => random.between(1000, 4094),
-        Class::Full => LONGEST,
-    };
-    let mut events = match random.below(9) {
-        0..=2 => walk(random, limit),
-        3..=4 => ring(random, limit),
-        5..=6 => crossing(random, limit),
-        _ => sections(random, limit),
+    let limit = limit(random, class);
+    let towers = if limit < 100 { 10 } else { 30 };
+    let mut events = match random.below(100) {
+        0..=44 => any_style(random, limit),
+        kind if kind < 100 - towers => {
+            let plain = any_style(random, limit * 2 / 3);
+            let plain = if random.chance(50) { with_turns_before(random, &plain) } else { plain };
+            with_inner_pairs(random, &plain, limit.max(plain.len() + 8))
+        }
+        _ => {
+            let few = random.between(5, 60).min(limit);
+            let plain = any_style(random, few);
+            with_towers(random, &plain, limit.max(plain.len() + 8))
+        }
     };
     if class == Class::Full {
         fill(random, &mut events, limit);
@@ -42,15 +45,42 @@ pub fn any_events(random: &mut Random, class: Class) -> Vec<Event> {
     events
 }
 
+/// A well-formed recording of one of the styles, in which every acquire is from depth 0.
+pub fn any_plain_events(random: &mut Random, class: Class) -> Vec<Event> {
+    let limit = limit(random, class);
+    any_style(random, limit)
+}
+
+/// A number of events of the class.
+fn limit(random: &mut Random, class: Class) -> usize {
+    match class {
+        Class::Tiny => random.below(3),
+        Class::Small => random.between(5, 60),
+        Class::Middle => random.between(100, 900),
+        Class::Large => random.between(1000, 4094),
+        Class::Full => LONGEST,
+    }
+}
+
+fn any_style(random: &mut Random, limit: usize) -> Vec<Event> {
+    match random.below(9) {
+        0..=2 => walk(random, limit),
+        3..=4 => ring(random, limit),
+        5..=6 => crossing(random, limit),
+        _ => sections(random, limit),
+    }
+}
+
 /// A recording under construction that stays well-formed.
-struct Builder {
-    events: Vec<Event>,
-    free: [bool; LOCKS],
+pub struct Builder {
+    pub events: Vec<Event>,
+    /// The locks that a step may take.
+    pub free: [bool; LOCKS],
     written: [bool; VARIABLES],
 }
 
 impl Builder {
-    fn new() -> Builder {
+    pub fn new() -> Builder {
         Builder { events: Vec::new(), free: [true; LOCKS], written: [false; VARIABLES] }
     }
 
@@ -59,7 +89,7 @@ impl Builder {
     }
 
     /// Takes an event; a read without an earlier write becomes a write.
-    fn take(&mut self, mut event: Event) {
+    pub fn take(&mut self, mut event: Event) {
         match event.operation {
             Operation::Acquire => self.free[event.object] = false,
             Operation::Release => self.free[event.object] = true,
@@ -73,14 +103,6 @@ impl Builder {
     }
 }
 
-fn acquire(task: usize, object: usize) -> Event {
-    Event { operation: Operation::Acquire, task, object }
-}
-
-fn release(task: usize, object: usize) -> Event {
-    Event { operation: Operation::Release, task, object }
-}
-
 /// A read or a write of one of so many variables.
 fn access(random: &mut Random, task: usize, variables: usize) -> Event {
     let operation = random.pick(&[Operation::Read, Operation::Read, Operation::Write]);
@@ -88,8 +110,8 @@ fn access(random: &mut Random, task: usize, variables: usize) -> Event {
 }
 
 /// How tasks walk at random: so many of each, and chances in per cent.
-struct Walk {
-    tasks: usize,
+pub struct Walk {
+    pub tasks: usize,
     locks: usize,
     variables: usize,
     /// The most locks that a task holds.
@@ -99,11 +121,11 @@ struct Walk {
     /// The chance to read or write.
     accesses: usize,
     /// The chance to stay in the task of the event before.
-    stay: usize,
+    pub stay: usize,
 }
 
 /// A way to walk for a recording of about so many events.
-fn any_walk(random: &mut Random, limit: usize) -> Walk {
+pub fn any_walk(random: &mut Random, limit: usize) -> Walk {
     let short = limit < 100;
     let few = short && random.chance(60);
     let invert = if short { random.pick(&[0, 5, 30, 60, 100]) } else { random.pick(&[0, 2, 6]) };
@@ -135,45 +157,14 @@ fn walk(random: &mut Random, limit: usize) -> Vec<Event> {
     builder.events
 }
 
-/// A recording of n events of which h leave this lock held, by one task or another, while tasks walk with
-/// the other locks.
-pub fn events_with_load(random: &mut Random, lock: usize, h: usize, n: usize) -> Vec<Event> {
-    let walk = any_walk(random, n);
-    let mut builder = Builder::new();
-    let mut others: Vec<Vec<usize>> = vec![Vec::new(); walk.tasks];
-    let (mut task, mut holder) = (0, None);
-    for held in held_after(random, h, n) {
-        if !random.chance(walk.stay) {
-            task = random.below(walk.tasks);
-        }
-        // No step of the walk takes the lock.
-        builder.free[lock] = false;
-        let event = match holder {
-            None if held => acquire(task, lock),
-            Some(holder) if !held => release(holder, lock),
-            _ => step(random, &walk, task, &mut others[task], &builder),
-        };
-        builder.take(event);
-        holder = held.then_some(holder.unwrap_or(task));
-    }
-    builder.events
-}
-
-/// Whether a lock is held after each of n events, as it is after h of them, in few long turns or many.
-fn held_after(random: &mut Random, h: usize, n: usize) -> Vec<bool> {
-    let turns = random.pick(&[3, 20, 60]);
-    let (mut held, mut held_left) = (false, h);
-    let mut after = Vec::new();
-    for left in (1..=n).rev() {
-        held = held_left == left || held_left > 0 && held != random.chance(turns);
-        held_left -= usize::from(held);
-        after.push(held);
-    }
-    after
-}
-
 /// One event of a walk by a task that holds these locks, the newest last.
-fn step(random: &mut Random, walk: &Walk, task: usize, held: &mut Vec<usize>, builder: &Builder) -> Event {
+pub fn step(
+    random: &mut Random,
+    walk: &Walk,
+    task: usize,
+    held: &mut Vec<usize>,
+    builder: &Builder,
+) -> Event {
     if random.chance(walk.accesses) {
         return access(random, task, walk.variables);
     }
@@ -183,13 +174,13 @@ fn step(random: &mut Random, walk: &Walk, task: usize, held: &mut Vec<usize>, bu
     if held.len() < walk.depth && !free.is_empty() && random.chance(55) {
         let lock = random.pick(&free);
         held.push(lock);
-        return acquire(task, lock);
+        return Event::acquire(task, lock);
     }
     if held.is_empty() {
         return access(random, task, walk.variables);
     }
     let index = if random.chance(85) { held.len() - 1 } else { random.below(held.len()) };
-    release(task, held.remove(index))
+    Event::release(task, held.remove(index))
 }
 
 /// Task i nests lock i and lock i + 1 round a ring, often of few tasks and at times of all, many times with
@@ -262,8 +253,8 @@ fn sections(random: &mut Random, limit: usize) -> Vec<Event> {
 
 /// One task takes the locks in turn and releases them backwards, perhaps with accesses between.
 fn section(random: &mut Random, task: usize, locks: &[usize], noisy: bool) -> Vec<Event> {
-    let takes = locks.iter().map(|&lock| acquire(task, lock));
-    let plain = takes.chain(locks.iter().rev().map(|&lock| release(task, lock)));
+    let takes = locks.iter().map(|&lock| Event::acquire(task, lock));
+    let plain = takes.chain(locks.iter().rev().map(|&lock| Event::release(task, lock)));
     let mut events = Vec::new();
     for event in plain {
         events.push(event);
@@ -310,21 +301,5 @@ fn rename(random: &mut Random, events: &mut [Event]) {
         event.task = tasks[event.task];
         event.object =
             if event.uses_lock() { locks[event.object] } else { (event.object + shift) % VARIABLES };
-    }
-}
-
-#[cfg(test)]
-mod tests {
-    use super::{events_with_load, Random};
-    use crate::calls::held_of_all;
-    use crate::recording::encode;
-
-    #[test]
-    fn loads_are_as_chosen() {
-        let mut random = Random::new(1);
-        for (h, n) in [(0, 0), (0, 1), (1, 1), (1, 8), (7, 8), (8, 8), (27, 200), (4094, 4095)] {
-            let recording = encode(&events_with_load(&mut random, 63, h, n));
-            assert_eq!(held_of_all(&recording, 63), Ok((h as u64, n as u64)));
-        }
     }
 }
