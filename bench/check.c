@@ -1,7 +1,8 @@
 /* Times the check of recordings, and the filling of their tables, against a plain C loop that does the same
- * as the check: holder and depth of each lock, latest write of each variable, each event unpacked by shifts. Recordings
- * are read from the files given as arguments. First sees that the answers agree, on every beginning of a
- * recording and with a bit of each byte turned; then measures all three in turn, and prints medians. */
+ * as the check: holder and depth of each lock, latest write of each variable, each event unpacked by shifts.
+ * Recordings are read from the files given as arguments. First sees that the answers agree, on every
+ * beginning of a recording and with a bit of each byte turned; then measures all three in turn, and prints
+ * medians. */
 #include <stdint.h>
 #include <stdio.h>
 #include <stdlib.h>
@@ -63,8 +64,8 @@ __attribute__((noipa)) static uint64_t c_check(const uint8_t *recording, size_t 
 }
 
 /* What timed_tables has to return for an accepted recording of n events: the relations of the last one, each
- * searched for by its definition, and compared as there; an inner acquire or release has its own number in the
- * table of matches. With no event, every table has 0. */
+ * searched for by its definition, and compared as there; an inner acquire or release has its own number in
+ * the table of matches. With no event, every table has 0. */
 static uint64_t last_entries(const uint8_t *recording, size_t n) {
     unsigned first = n == 0 ? 0 : recording[2 * n];
     unsigned op = first >> 6, task = first >> 2 & 15;

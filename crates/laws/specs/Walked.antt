@@ -19,8 +19,8 @@ pub record Holder (σ : Trace) (e l h d : ℕ) : Type 0 where
   pub at : (t : ℕ) → t < tasks → depth σ e t l ≡ cond (eqb h (suc t)) d 0
   pub none : eqb h 0 ≡ eqb d 0
 
--- What a table has for depth d: the depth, and for 0 the 1 that an acquire makes of it. So an outer acquire or
--- release changes no entry.
+-- What a table has for depth d: the depth, and for 0 the 1 that an acquire makes of it. So an outer acquire
+-- or release changes no entry.
 abbrev pub kept : ℕ → ℕ
 kept d = cond (eqb d 0) 1 d
 

@@ -76,11 +76,11 @@ pub record SampleDepths : Type 0 where
   pub inner-acquire : relations nested 2 ≡ related 1 1 0 0 1
   pub inner-release : relations nested 3 ≡ related 1 1 0 0 2
   pub outer-release : relations nested 4 ≡ related 1 1 1 0 3
-  -- The match of an acquire is the release to depth 0: the closure has it, with two outer acquires of a lock;
-  -- an inner one is no second.
+  -- The match of an acquire is the release to depth 0: with two outer acquires of a lock the closure has it.
   pub closes-outer : members (trace nested)
       (closure (trace nested) (withAll (noEvents (trace nested)) (1 ∷ 5 ∷ [])))
       ≡ 1 ∷ 2 ∷ 3 ∷ 4 ∷ 5 ∷ []
+  -- An inner acquire is no second one.
   pub closes-inner : members (trace nested)
       (closure (trace nested) (withAll (noEvents (trace nested)) (2 ∷ [])))
       ≡ 1 ∷ 2 ∷ []
@@ -88,10 +88,11 @@ pub record SampleDepths : Type 0 where
   pub schedule-outer : syncPreserving (trace nested) (1 ∷ 2 ∷ 3 ∷ 4 ∷ 5 ∷ []) ≡ true
   pub schedule-inner : syncPreserving (trace nested) (1 ∷ 2 ∷ 3 ∷ 5 ∷ []) ≡ false
   pub schedule-order : syncPreserving (trace nested) (1 ∷ 3 ∷ 2 ∷ []) ≡ false
-  -- A pattern of outer acquires, between which inner sections lie; its witness, and another schedule.
+  -- A pattern of outer acquires, between which inner sections lie, and its witness.
   pub between-listed : listing between 0 ≡ (4 ∷ 10 ∷ []) ∷ []
   pub between-witness : witnessOut between (encode (4 ∷ 10 ∷ [])) (blank 12)
       ≡ encode (1 ∷ 2 ∷ 3 ∷ 7 ∷ 8 ∷ 9 ∷ [])
+  -- Another schedule of it; one that is not in task order, and one without the inner events.
   pub between-mixed : valid between (4 ∷ 10 ∷ []) (7 ∷ 1 ∷ 8 ∷ 2 ∷ 3 ∷ 9 ∷ []) ≡ true
   pub between-order : valid between (4 ∷ 10 ∷ []) (1 ∷ 3 ∷ 2 ∷ 7 ∷ 8 ∷ 9 ∷ []) ≡ false
   pub between-short : valid between (4 ∷ 10 ∷ []) (1 ∷ 7 ∷ 8 ∷ 9 ∷ []) ≡ false

@@ -51,7 +51,9 @@ module _ {σ : Trace} {e t o : ℕ} {holders depths : List ℕ} (u : Locked σ e
   -- The tables with another holder of the event's lock,
   with-holder : (h : ℕ) → Kept σ (suc e) (object σ e) h (getD depths o 0)
       → Holders σ (e + 1) (set holders o h) depths
-  with-holder h z = rw (add-one e, u .object-is .1) (holders-holder (u .held) (u .lock-is) (rw (u .object-is .1) at z))
+  with-holder h z =
+      rw (add-one e, u .object-is .1)
+      (holders-holder (u .held) (u .lock-is) (rw (u .object-is .1) at z))
 
   -- or, where its task holds it, another depth.
   with-depth : (x : ℕ) → getD holders o 0 ≡ t + 1 → Kept σ (suc e) (object σ e) (suc (task σ e)) x

@@ -69,8 +69,8 @@ pub fn in_mask(mask: u64, l: u64) -> bool
 }
 
 // Puts question 5 to acquire e, with the holder of each lock (its task plus 1, or 0) and how deep it is in
-// it, or 1 without a holder: 5, or 0, and then its task is the holder, one deeper. A depth is at most e, so it
-// fits.
+// it, or 1 without a holder: 5, or 0, and then its task is the holder, one deeper. A depth is at most e, so
+// it fits.
 fn enter(records: &[u8], e: usize, holders: &mut [u8], depths: &mut [u16]) -> u64
     requires { ⌜ (1 ≤ e) × (2 * e ≤ length (now records)) × (e < tableLength)
         × T (enters (decodeAll (now records)) e) × (object (decodeAll (now records)) e < locks)

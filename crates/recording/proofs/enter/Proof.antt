@@ -52,7 +52,8 @@ slice-read-if2 c = search needs
 
 returns-2 : tie.Need-returns-2
 returns-2 c =
-    enter-refused (unpacked (c .before .before .before .before)) (c .before .before .if1 .left) (c .if2 .taken)
+    enter-refused (unpacked (c .before .before .before .before)) (c .before .before .if1 .left)
+    (c .if2 .taken)
 
 mul-depths : tie.Need-mul-depths
 mul-depths c = search needs

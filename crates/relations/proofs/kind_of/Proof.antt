@@ -1,14 +1,17 @@
--- `relations::kind_of` meets its contract: the held locks decide on an acquire, and the depth of its lock on a
--- release. Assumes nothing.
+-- `relations::kind_of` meets its contract: the held locks decide on an acquire, and the depth of its lock on
+-- a release. Assumes nothing.
+use Prim.Native.Nat.{_<_}
 use mathlib.Core.Path.{sym, _∙_}
 use native.Mathlib.Omega.{arith}
 use borrow.Author.Needs.{needs}
+use lib.ListN.{length}
+use Rattle.model.specs.Trace.{locks}
 use Rattle.model.specs.Recording.{decodeAll}
 use Rattle.laws.proofs.Tests.{not-true, not-false}
 use Rattle.laws.proofs.Trace.{record-event}
 use Rattle.laws.proofs.Questions.{events-sound}
-use Rattle.relations.proofs.KindOf.{Coming, access-kind, lock-small, depth-fits, enter-outer, enter-inner}
-use Rattle.relations.proofs.KindOf.{leave-deep, leave-outer, leave-inner}
+use Rattle.relations.proofs.KindOf.{Coming, access-kind, lock-small, depth-fits, enter-outer}
+use Rattle.relations.proofs.KindOf.{enter-inner, leave-deep, leave-outer, leave-inner}
 use Rattle.relations.proofs.kind_of.Statement.{statement}
 use Rattle.relations.proofs.kind_of.Tie as tie
 
@@ -29,6 +32,16 @@ unpacked c =
       depths-are = s .pre .5;
     }
 
+-- The object of an acquire or a release is a lock.
+bound : (c : tie.After-object) → c .object .result < locks
+bound c =
+    lock-small (unpacked (c .before .before)) (c .object .ensures .1) (omega (arith, c .before .if1 .left))
+
+-- So it has an entry.
+inside : (c : tie.After-object)
+    → c .object .result < length (start (c .before .before) .args .depths .now)
+inside c = omega (arith, bound c, start (c .before .before) .pre .5 .long)
+
 operation-requires : tie.Need-operation-requires
 operation-requires c κs = search needs
 
@@ -42,9 +55,7 @@ cast-l : tie.Need-cast-l
 cast-l c = search needs
 
 in-mask-requires : tie.Need-in-mask-requires
-in-mask-requires c κs =
-    let small = lock-small (unpacked (c .before .before .before)) (c .before .object .ensures .1) (search needs) in
-    omega arith
+in-mask-requires c κs = bound (c .before)
 
 returns-2 : tie.Need-returns-2
 returns-2 c =
@@ -56,25 +67,20 @@ mul-depths : tie.Need-mul-depths
 mul-depths c = search needs
 
 slice-read-depths : tie.Need-slice-read-depths
-slice-read-depths c =
-    let u = c .before .before .before .before .before .before in
-    let small = lock-small (unpacked u) (c .before .before .before .before .object .ensures .1) (search needs) in
-    omega (arith, start u .pre .5 .long)
+slice-read-depths c = inside (c .before .before .before .before)
 
 add-depths : tie.Need-add-depths
 add-depths c =
     let u = c .before .before .before .before .before .before in
-    let fits = depth-fits (unpacked u) (c .before .before .before .before .object .ensures .1) (search needs) in
+    let fits = depth-fits (unpacked u) (c .before .before .before .before .object .ensures .1)
+    (search needs) in
     omega (arith, start u .pre .2)
 
 mul-depths-2 : tie.Need-mul-depths-2
 mul-depths-2 c = search needs
 
 slice-write-depths : tie.Need-slice-write-depths
-slice-write-depths c =
-    let u = c .before .before .before .before .before .before in
-    let small = lock-small (unpacked u) (c .before .before .before .before .object .ensures .1) (search needs) in
-    omega (arith, start u .pre .5 .long)
+slice-write-depths c = inside (c .before .before .before .before)
 
 same-length : tie.Need-same-length
 same-length c = search needs
@@ -82,50 +88,45 @@ same-length c = search needs
 returns-3 : tie.Need-returns-3
 returns-3 c =
     let u = c .before .before .before .before .before .before in
-    enter-inner (unpacked u) (c .before .before .before .before .object .ensures .1) (c .before .before .before .if2 .taken)
+    enter-inner (unpacked u) (c .before .before .before .before .object .ensures .1)
+    (c .before .before .before .if2 .taken)
     (rw (start u .pre .4) at (sym (c .before .before .in-mask .ensures) ∙ not-false _ (c .before .if3 .left)))
 
 mul-if4 : tie.Need-mul-if4
 mul-if4 c = search needs
 
 slice-read-if4 : tie.Need-slice-read-if4
-slice-read-if4 c =
-    let u = c .before .before .before .before in
-    let small = lock-small (unpacked u) (c .before .before .object .ensures .1) (search needs) in
-    omega (arith, start u .pre .5 .long)
+slice-read-if4 c = inside (c .before .before)
 
 returns-4 : tie.Need-returns-4
 returns-4 c =
-    leave-outer (unpacked (c .before .before .before .before .before)) (c .before .before .before .object .ensures .1) (search needs) (c .if4 .taken)
+    leave-outer (unpacked (c .before .before .before .before .before))
+    (c .before .before .before .object .ensures .1) (search needs) (c .if4 .taken)
 
 mul-depths-3 : tie.Need-mul-depths-3
 mul-depths-3 c = search needs
 
 slice-read-depths-2 : tie.Need-slice-read-depths-2
-slice-read-depths-2 c =
-    let u = c .before .before .before .before .before .before in
-    let small = lock-small (unpacked u) (c .before .before .before .before .object .ensures .1) (search needs) in
-    omega (arith, start u .pre .5 .long)
+slice-read-depths-2 c = inside (c .before .before .before .before)
 
 sub-depths : tie.Need-sub-depths
 sub-depths c =
-    leave-deep (unpacked (c .before .before .before .before .before .before)) (c .before .before .before .before .object .ensures .1) (search needs)
+    leave-deep (unpacked (c .before .before .before .before .before .before))
+    (c .before .before .before .before .object .ensures .1) (search needs)
 
 mul-depths-4 : tie.Need-mul-depths-4
 mul-depths-4 c = search needs
 
 slice-write-depths-2 : tie.Need-slice-write-depths-2
-slice-write-depths-2 c =
-    let u = c .before .before .before .before .before .before in
-    let small = lock-small (unpacked u) (c .before .before .before .before .object .ensures .1) (search needs) in
-    omega (arith, start u .pre .5 .long)
+slice-write-depths-2 c = inside (c .before .before .before .before)
 
 same-length-2 : tie.Need-same-length-2
 same-length-2 c = search needs
 
 returns-5 : tie.Need-returns-5
 returns-5 c =
-    leave-inner (unpacked (c .before .before .before .before .before .before)) (c .before .before .before .before .object .ensures .1) (search needs) (c .before .if4 .left)
+    leave-inner (unpacked (c .before .before .before .before .before .before))
+    (c .before .before .before .before .object .ensures .1) (search needs) (c .before .if4 .left)
 
 pub kind-of-spec : {M : Type 1} → statement M
 kind-of-spec =

@@ -8,11 +8,16 @@ use Rattle.laws.proofs.LatestEvents.{filled-set}
 use Rattle.relations.proofs.note_locks.Statement.{statement}
 use Rattle.relations.proofs.note_locks.Tie as tie
 
--- The entry, from where the match is noted.
-abbrev start : tie.After-note-match → tie.Start
-start c =
-    c .before .before .before .before .before .before .before .before .before .before .before .before .before
-    .before .before .before .before .before .before
+-- From where the kind is found to the entry,
+abbrev entry : tie.After-kind-of → tie.Start
+entry c = c .before .before .before .before .before .before .before .before .before .before
+
+-- and from where the match is noted to the task's locks, and from there to the kind.
+abbrev noted-lockset : tie.After-note-match → tie.After-note-lockset
+noted-lockset c = c .before .before .before .before .before
+
+abbrev found-kind : tie.After-note-lockset → tie.After-kind-of
+found-kind c = c .before .before .before .before
 
 held-locks-requires : tie.Need-held-locks-requires
 held-locks-requires c κs = search needs
@@ -50,14 +55,15 @@ same-length-5 c = search needs
 returns : tie.Need-returns
 returns c =
     let matched = c .before .before .before .before in
-    let kinds = c .before .before .before .before .before .before .before .before .before .before .before .before .before in
-    let s = start matched in (
+    let lockset = noted-lockset matched in
+    let kinds = found-kind lockset in
+    let s = entry kinds in (
       matched .note-match .ensures .0,
       filled-set (held (decodeAll (s .args .records .now))) (s .args .e) _ (s .args .holding .now) (s .pre .7)
           (omega (arith, s .pre .2, s .pre .4)) (kinds .before .before .held-locks .ensures),
       matched .note-match .ensures .1,
       kinds .kind-of .ensures .2,
-      c .before .before .before .before .before .before .before .before .before .note-lockset .ensures,
+      lockset .note-lockset .ensures,
       matched .note-match .ensures .2,
     )
 

@@ -54,7 +54,8 @@ same-length c = search needs
 returns : tie.Need-returns
 returns c =
     let s = c .before .before .before .before .before .before in
-    acquire-noted (known s) (c .before .before .before .task .ensures) (s .args .locksets .now) (s .pre .5) (c .before .if1 .taken)
+    acquire-noted (known s) (c .before .before .before .task .ensures) (s .args .locksets .now) (s .pre .5)
+    (c .before .if1 .taken)
     (c .object .ensures)
 
 object-requires-2 : tie.Need-object-requires-2
@@ -81,13 +82,15 @@ same-length-2 c = search needs
 returns-2 : tie.Need-returns-2
 returns-2 c =
     let s = c .before .before .before .before .before .before .before in
-    release-noted (known s) (c .before .before .before .before .task .ensures) (s .args .locksets .now) (s .pre .5) (c .before .if2 .taken)
+    release-noted (known s) (c .before .before .before .before .task .ensures) (s .args .locksets .now)
+    (s .pre .5) (c .before .if2 .taken)
     (c .object2 .ensures)
 
 returns-3 : tie.Need-returns-3
 returns-3 c =
     let s = c .before .before .before .before .before .before in
-    access-noted (known s) (c .before .before .before .task .ensures) (s .args .locksets .now) (s .pre .5) (c .before .if1 .left)
+    access-noted (known s) (c .before .before .before .task .ensures) (s .args .locksets .now) (s .pre .5)
+    (c .before .if1 .left)
     (c .if2 .left)
 
 pub note-lockset-spec : {M : Type 1} → statement M
