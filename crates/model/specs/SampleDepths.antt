@@ -92,7 +92,7 @@ pub record SampleDepths : Type 0 where
   pub between-listed : listing between 0 ≡ (4 ∷ 10 ∷ []) ∷ []
   pub between-witness : witnessOut between (encode (4 ∷ 10 ∷ [])) (blank 12)
       ≡ encode (1 ∷ 2 ∷ 3 ∷ 7 ∷ 8 ∷ 9 ∷ [])
-  -- Another schedule of it; one that is not in task order, and one without the inner events.
+  -- Another schedule of it; one that is not in task order, and one that leaves out inner events.
   pub between-mixed : valid between (4 ∷ 10 ∷ []) (7 ∷ 1 ∷ 8 ∷ 2 ∷ 3 ∷ 9 ∷ []) ≡ true
   pub between-order : valid between (4 ∷ 10 ∷ []) (1 ∷ 3 ∷ 2 ∷ 7 ∷ 8 ∷ 9 ∷ []) ≡ false
   pub between-short : valid between (4 ∷ 10 ∷ []) (1 ∷ 7 ∷ 8 ∷ 9 ∷ []) ≡ false

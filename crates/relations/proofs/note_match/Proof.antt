@@ -73,8 +73,7 @@ returns c =
     let is-object = c .before .before .object .ensures in (
       search needs,
       release-matched (known s) is-object (s .args .acquires .now) (s .pre .6) (s .pre .9)
-          (c .before .if1 .taken)
-          (s .args .matches .now) (s .pre .8) (search needs),
+          (c .before .if1 .taken) (s .args .matches .now) (s .pre .8) (search needs),
       no-acquire-latest (known s) is-object (s .args .acquires .now) (s .pre .6) (s .pre .9)
           (omega (arith, c .before .if1 .taken)),
     )
@@ -93,12 +92,11 @@ same-length-2 c = search needs
 
 returns-2 : tie.Need-returns-2
 returns-2 c =
-    let s = c .before .before .before .before .before .before in
-    let is-object = c .before .before .object .ensures in (
+    let s = c .before .before .before .before .before .before in (
       search needs,
       inner-marked (known s) (s .args .matches .now) (s .pre .8) (search needs) (c .if2 .taken),
-      no-acquire-latest (known s) is-object (s .args .acquires .now) (s .pre .6) (s .pre .9)
-          (omega (arith, c .if2 .taken)),
+      no-acquire-latest (known s) (c .before .before .object .ensures) (s .args .acquires .now) (s .pre .6)
+          (s .pre .9) (omega (arith, c .if2 .taken)),
     )
 
 mul-matches-4 : tie.Need-mul-matches-4
@@ -132,8 +130,7 @@ returns-3 c =
     let is-object = c .before .before .before .object .ensures in (
       search needs,
       no-release-matched (known s) (s .args .matches .now) (s .pre .8) (search needs)
-          (c .before .before .if1 .left)
-          (c .before .if2 .left),
+          (c .before .before .if1 .left) (c .before .if2 .left),
       acquire-latest (known s) is-object (s .args .acquires .now) (s .pre .6) (s .pre .9) (c .if3 .taken),
     )
 
@@ -146,8 +143,7 @@ returns-4 c =
     let is-object = c .before .before .before .object .ensures in (
       search needs,
       no-release-matched (known s) (s .args .matches .now) (s .pre .8) (search needs)
-          (c .before .before .if1 .left)
-          (c .before .if2 .left),
+          (c .before .before .if1 .left) (c .before .if2 .left),
       no-acquire-latest (known s) is-object (s .args .acquires .now) (s .pre .6) (s .pre .9) (c .if3 .left),
     )
 
