@@ -24,6 +24,9 @@ enum { TASKS = 16, LOCKS = 64, VARIABLES = 1024, EVENTS = 4095 };
 /* The most bytes that are lent: more than a recording and a pattern can have. */
 enum { RECORDING = 9000, PATTERN = 100, OUT = 70000 };
 
+/* The most acquires of a task in a walk that are not released. */
+enum { MOST_HELD = 300 };
+
 enum { READ, WRITE, ACQUIRE, RELEASE };
 
 struct bytes {
@@ -38,8 +41,10 @@ static struct {
     size_t out_length;
 } tried;
 
-/* The locks that the task of each event holds right before it, if the recording tried is well-formed. */
+/* The locks that the task of each event holds right before it, and how many inner acquires there are, if the
+ * recording tried is well-formed. */
 static uint64_t held[EVENTS + 1];
+static size_t inner_acquires;
 
 static void print_bytes(const char *name, struct bytes bytes) {
     printf("%s, %zu bytes:", name, bytes.length);
@@ -139,10 +144,12 @@ static uint64_t refused(uint64_t refusal, uint64_t event) {
     return 2 * (65536 * refusal + event) + 1;
 }
 
-/* Questions 4 to 7, event by event: the refusal, or 0. Fills in the held locks. */
+/* Questions 4 to 7, event by event: the refusal, or 0. Fills in the held locks, and counts inner acquires. */
 static uint64_t walk_events(struct bytes recording) {
-    uint64_t taken = 0, own[TASKS] = {0};
+    uint64_t own[TASKS] = {0};
+    unsigned depths[LOCKS] = {0};
     bool is_written[VARIABLES] = {false};
+    inner_acquires = 0;
     for (size_t e = 1; e <= count_events(recording); e++) {
         unsigned op = operation(recording, e), t = task(recording, e), x = object(recording, e);
         held[e] = own[t];
@@ -154,12 +161,13 @@ static uint64_t walk_events(struct bytes recording) {
             continue;
         if (x >= LOCKS)
             return refused(4, e);
-        if (op == ACQUIRE && has(taken, x))
+        if (op == ACQUIRE && depths[x] != 0 && !has(own[t], x))
             return refused(5, e);
         if (op == RELEASE && !has(own[t], x))
             return refused(6, e);
-        taken ^= (uint64_t)1 << x;
-        own[t] ^= (uint64_t)1 << x;
+        inner_acquires += op == ACQUIRE && depths[x] != 0;
+        if (op == ACQUIRE ? depths[x]++ == 0 : --depths[x] == 0)
+            own[t] ^= (uint64_t)1 << x;
     }
     return 0;
 }
@@ -195,7 +203,9 @@ static bool is_pattern(struct bytes recording, struct bytes pattern) {
         if (e == 0 || count_events(recording) < e || next == 0 || count_events(recording) < next)
             return false;
         unsigned t = task(recording, e), lock = object(recording, e);
-        if (operation(recording, e) != ACQUIRE || e < number(pattern.at) || !has(held[next], lock))
+        if (operation(recording, e) != ACQUIRE || has(held[e], lock))
+            return false;
+        if (e < number(pattern.at) || !has(held[next], lock))
             return false;
         if (has(tasks, t) || has(locks, lock) || (all_held & held[e]) != 0)
             return false;
@@ -211,8 +221,10 @@ static bool is_pattern(struct bytes recording, struct bytes pattern) {
 /* How tasks walk, with chances in per cent. */
 struct walk {
     size_t tasks, locks, variables;
-    /* The most locks that a task holds. */
+    /* A task takes a free lock where fewer acquires of it than these are not released. */
     size_t depth;
+    /* The chance that a task that holds a lock takes its newest one again. */
+    size_t again;
     /* The chance that a task takes a lock that it can take, and that after a release it takes none. */
     size_t take, leave;
     /* The chance that a task that holds a lock goes on. */
@@ -227,11 +239,11 @@ struct walk {
     size_t shift;
 };
 
-/* Where a walk is: which locks are held, those of each task, the newest last, which variables are written,
- * and which tasks release all their locks. */
+/* Where a walk is: which locks are held, those of each task, the newest last and as often as it holds them,
+ * which variables are written, and which tasks release all their locks. */
 struct state {
     bool is_held[LOCKS], is_written[VARIABLES], is_leaving[TASKS];
-    uint8_t held[TASKS][LOCKS];
+    uint8_t held[TASKS][MOST_HELD];
     size_t count[TASKS];
 };
 
@@ -244,6 +256,7 @@ static struct walk any_walk(void) {
     walk.depth = between(1, 4);
     walk.stay = chance(40) ? 100 : between(20, 95);
     walk.follow = chance(50) ? 0 : between(1, 100);
+    walk.again = chance(50) ? 0 : between(1, 60);
     walk.access = chance(60) ? 0 : between(1, 50);
     walk.shift = below(LOCKS);
     return walk;
@@ -276,10 +289,16 @@ static size_t next_lock(const struct walk *walk, const struct state *state, size
     return (count == 0 ? t : state->held[t][count - 1] + (size_t)1) % walk->locks;
 }
 
-/* One event of a task, but for its task: it takes a free lock, releases one, or reads or writes. */
+/* One event of a task, but for its task: it takes a free lock, its newest one again, releases one, or reads or
+ * writes. */
 static size_t step(const struct walk *walk, struct state *state, size_t t) {
     uint8_t *own = state->held[t];
     size_t lock = next_lock(walk, state, t);
+    if (0 < state->count[t] && state->count[t] < MOST_HELD && chance(walk->again)) {
+        lock = own[state->count[t] - 1];
+        own[state->count[t]++] = (uint8_t)lock;
+        return ACQUIRE << 14 | (lock + walk->shift) % LOCKS;
+    }
     bool can_take = state->count[t] < walk->depth && !state->is_held[lock] && !state->is_leaving[t];
     if (chance(walk->access))
         return read_or_write(walk, state);
@@ -293,7 +312,7 @@ static size_t step(const struct walk *walk, struct state *state, size_t t) {
     size_t i = chance(85) ? state->count[t] - 1 : below(state->count[t]);
     lock = own[i];
     memmove(own + i, own + i + 1, --state->count[t] - i);
-    state->is_held[lock] = false;
+    state->is_held[lock] = memchr(own, (int)lock, state->count[t]) != NULL;
     state->is_leaving[t] = state->count[t] > 0 && chance(walk->leave);
     return RELEASE << 14 | (lock + walk->shift) % LOCKS;
 }
@@ -495,8 +514,9 @@ static uint64_t verdict(struct bytes recording, struct bytes pattern) {
 
 /* ---- listings */
 
-/* How many entries of each size were listed, and how many of them of more than two events with size 0. */
-static size_t entries[17], larger_with_0;
+/* How many entries of each size were listed, how many of them of more than two events with size 0, and how
+ * many in recordings with inner acquires. */
+static size_t entries[17], larger_with_0, entries_with_inner;
 
 /* Sees that a listing is patterns of permitted sizes in ascending order, each with the verdict deadlock, and
  * nothing behind the last one. */
@@ -516,6 +536,7 @@ static void check_listing(struct bytes recording, uint64_t largest, struct bytes
                "an entry whose verdict is not deadlock");
         entries[size]++;
         larger_with_0 += largest == 0 && size > 2;
+        entries_with_inner += inner_acquires > 0;
         last = pattern;
     }
 }
@@ -790,7 +811,9 @@ int main(int argc, char **argv) {
     for (size_t size = 2; size <= 16; size++)
         printf(" %zu", entries[size]);
     printf("\nentries of more than two events with size 0: %zu\n", larger_with_0);
+    printf("entries in recordings with inner acquires: %zu\n", entries_with_inner);
     missing += larger_with_0 == 0;
+    missing += entries_with_inner == 0;
     if (missing > 0)
         printf("fuzz: %zu answers never came\n", missing);
     return missing == 0 ? 0 : 1;

@@ -1,5 +1,5 @@
 -- Visiting one event: what it adds to the wanted events, and to the latest acquires. The tables that it needs
--- have the relations of each event.
+-- have the relations of each event, and an inner one's own number for its match.
 use Prim.Native.Nat.{ℕ, _≤_, min}
 use mathlib.Core.Path.{_≡_}
 use mathlib.Core.Bool.{cond}
@@ -29,7 +29,7 @@ pub record Needed (σ : Trace) (predecessors writers matches : List ℕ) : Type 
 unfoldable pub wantedWriter : Trace → List ℕ → ℕ → List ℕ
 wantedWriter σ want f = cond (eqb (writer σ f) 0) want (raised want (task σ (writer σ f)) (writer σ f))
 
--- The wanted events with the match of the earlier one of two acquires, `top` and f, unless `top` is 0.
+-- The wanted events with the match of the earlier one of two outer acquires, `top` and f, unless `top` is 0.
 unfoldable pub wantedEarlier : Trace → List ℕ → ℕ → ℕ → List ℕ
 wantedEarlier σ want top f =
     cond (eqb top 0) want (raised want (task σ (min top f)) (marked σ (min top f)))

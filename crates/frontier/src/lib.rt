@@ -34,7 +34,7 @@ fn earlier(a: u16, b: u16) -> u16
     b
 }
 
-// Wants the match of acquire e, which is an event of the same task.
+// Wants the match of the outer acquire e, which is an event of the same task.
 fn want_match(records: &[u8], matches: &[u16], want: &mut [u16], e: u16)
     requires { ⌜ (1 ≤ e) × (2 * e ≤ length (now records)) × (e < length (now matches))
         × (getD (now matches) e 0 ≡ marked (decodeAll (now records)) e) × (length (now want) ≡ tasks) ⌝ }

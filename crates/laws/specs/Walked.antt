@@ -1,6 +1,6 @@
 -- What the tables of a walk hold right before event e, in terms of the relations: the holder and the depth of
 -- a lock, the locks of each task, the latest event of each kind, and the matches. How one event changes them
--- is in proofs/LatestEvents, Holders, LockDepths, Locksets and Matches.
+-- is in proofs/LatestEvents, Holders, Kept, LockDepth, Locksets and Matches.
 use Prim.Native.Nat.{ℕ, suc, _-_, _^_, _≤_, _<_}
 use mathlib.Core.Path.{_≡_}
 use mathlib.Core.Bool.{Bool, cond, _&&_}

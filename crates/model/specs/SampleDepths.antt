@@ -27,8 +27,8 @@ use Rattle.model.specs.SampleAnswers.{related}
 use Rattle.model.specs.Recordings.{recording, by, acq, rel}
 
 -- Task 0 takes lock 0 twice and gives it back twice; then task 1 takes it.
-abbrev pub nested : List ℕ
-nested = recording (by 0 (acq 0 ∷ acq 0 ∷ rel 0 ∷ rel 0 ∷ []) ++ by 1 (acq 0 ∷ []))
+abbrev pub reentered : List ℕ
+reentered = recording (by 0 (acq 0 ∷ acq 0 ∷ rel 0 ∷ rel 0 ∷ []) ++ by 1 (acq 0 ∷ []))
 
 -- Row A, in which each task's first lock has an inner section right before the second one is taken.
 abbrev pub between : List ℕ
@@ -50,21 +50,29 @@ earlier =
     (by 0 (acq 0 ∷ acq 1 ∷ rel 1 ∷ rel 0 ∷ [])
     ++ by 1 (acq 1 ∷ acq 1 ∷ rel 1 ∷ rel 1 ∷ acq 1 ∷ acq 0 ∷ rel 0 ∷ rel 1 ∷ []))
 
+-- Task 0 takes locks 0 and 1 twice each, and gives them back in another order.
+abbrev pub crossing : List ℕ
+crossing =
+    recording (by 0 (acq 0 ∷ acq 1 ∷ acq 1 ∷ acq 0 ∷ rel 1 ∷ rel 1 ∷ rel 0 ∷ rel 0 ∷ []))
+
 -- All samples of depths.
 pub record SampleDepths : Type 0 where
-  -- The depth right before and after each event of `nested`; another task's is its own, and a byte is too
-  -- small for some.
-  pub depth-first : depth (trace nested) 1 0 0 ≡ 0
-  pub depth-outer : depth (trace nested) 2 0 0 ≡ 1
-  pub depth-inner : depth (trace nested) 3 0 0 ≡ 2
-  pub depth-back : depth (trace nested) 4 0 0 ≡ 1
-  pub depth-last : depth (trace nested) 5 0 0 ≡ 0
-  pub depth-other : depth (trace nested) 6 1 0 ≡ 1
+  -- The depth of task 0 before each of its events and after the last, and that of task 1 meanwhile and after
+  -- its own: a depth is of a task and a lock. A byte is too small for some.
+  pub depth-first : depth (trace reentered) 1 0 0 ≡ 0
+  pub depth-outer : depth (trace reentered) 2 0 0 ≡ 1
+  pub depth-inner : depth (trace reentered) 3 0 0 ≡ 2
+  pub depth-back : depth (trace reentered) 4 0 0 ≡ 1
+  pub depth-last : depth (trace reentered) 5 0 0 ≡ 0
+  pub depth-meanwhile : depth (trace reentered) 3 1 0 ≡ 0
+  pub depth-other : depth (trace reentered) 6 1 0 ≡ 1
+  pub depth-own : depth (trace reentered) 6 0 0 ≡ 0
   pub depth-large : depth (trace (recording (by 0 (replicate 256 (acq 0))))) 257 0 0 ≡ 256
-  -- 5 only where another task holds the lock: at depth 2, and at depth 1 again; not once it is given back.
+  -- 5 only where another task holds the lock: at depth 2, and at depth 1 again; not once it is given back, but
+  -- for its first holder, once another task has it.
   pub five-deep : check (recording (by 0 (acq 0 ∷ acq 0 ∷ []) ++ by 1 (acq 0 ∷ []))) ≡ outcome 5 3
   pub five-kept : check (recording (by 0 (acq 0 ∷ acq 0 ∷ rel 0 ∷ []) ++ by 1 (acq 0 ∷ []))) ≡ outcome 5 4
-  pub five-not : check nested ≡ outcome 0 0
+  pub five-not : check reentered ≡ outcome 0 0
   pub five-later : check (recording (by 0 (acq 0 ∷ acq 0 ∷ rel 0 ∷ rel 0 ∷ []) ++ by 1 (acq 0 ∷ [])
       ++ by 0 (acq 0 ∷ []))) ≡ outcome 5 6
   -- 6 for a release beyond the depth, and for one of a lock that another task has deep.
@@ -72,23 +80,30 @@ pub record SampleDepths : Type 0 where
   pub six-other : check (recording (by 0 (acq 0 ∷ acq 0 ∷ []) ++ by 1 (rel 0 ∷ []))) ≡ outcome 6 3
   -- Relations: held locks and their count, match, writer, predecessor. The outer ones are each other's match;
   -- the inner ones have match 0, and their own lock among the held ones, once.
-  pub outer-acquire : relations nested 1 ≡ related 0 0 4 0 0
-  pub inner-acquire : relations nested 2 ≡ related 1 1 0 0 1
-  pub inner-release : relations nested 3 ≡ related 1 1 0 0 2
-  pub outer-release : relations nested 4 ≡ related 1 1 1 0 3
+  pub outer-acquire : relations reentered 1 ≡ related 0 0 4 0 0
+  pub inner-acquire : relations reentered 2 ≡ related 1 1 0 0 1
+  pub inner-release : relations reentered 3 ≡ related 1 1 0 0 2
+  pub outer-release : relations reentered 4 ≡ related 1 1 1 0 3
+  -- An outer acquire that is released to depth 1 alone has match 0; of two sections of one task each release
+  -- has its own; two locks are released in any order.
+  pub unreleased : relations (recording (by 0 (acq 0 ∷ acq 0 ∷ rel 0 ∷ []))) 1 ≡ related 0 0 0 0 0
+  pub second-section : relations (recording (by 0 (acq 0 ∷ acq 0 ∷ rel 0 ∷ rel 0 ∷ acq 0 ∷ rel 0 ∷ []))) 6
+      ≡ related 1 1 5 0 5
+  -- Lock 1 is given back first, though lock 0 was taken again last.
+  pub crossed : relations crossing 6 ≡ related 3 2 2 0 5
   -- The match of an acquire is the release to depth 0: with two outer acquires of a lock the closure has it.
-  pub closes-outer : members (trace nested)
-      (closure (trace nested) (withAll (noEvents (trace nested)) (1 ∷ 5 ∷ [])))
+  pub closes-outer : members (trace reentered)
+      (closure (trace reentered) (withAll (noEvents (trace reentered)) (1 ∷ 5 ∷ [])))
       ≡ 1 ∷ 2 ∷ 3 ∷ 4 ∷ 5 ∷ []
   -- An inner acquire is no second one.
-  pub closes-inner : members (trace nested)
-      (closure (trace nested) (withAll (noEvents (trace nested)) (2 ∷ [])))
+  pub closes-inner : members (trace reentered)
+      (closure (trace reentered) (withAll (noEvents (trace reentered)) (2 ∷ [])))
       ≡ 1 ∷ 2 ∷ []
   -- Schedules: inner events in task order alone; a lock is free after the release to depth 0, not before.
-  pub schedule-outer : syncPreserving (trace nested) (1 ∷ 2 ∷ 3 ∷ 4 ∷ 5 ∷ []) ≡ true
-  pub schedule-inner : syncPreserving (trace nested) (1 ∷ 2 ∷ 3 ∷ 5 ∷ []) ≡ false
-  pub schedule-order : syncPreserving (trace nested) (1 ∷ 3 ∷ 2 ∷ []) ≡ false
-  -- A pattern of outer acquires, between which inner sections lie, and its witness.
+  pub schedule-outer : syncPreserving (trace reentered) (1 ∷ 2 ∷ 3 ∷ 4 ∷ 5 ∷ []) ≡ true
+  pub schedule-inner : syncPreserving (trace reentered) (1 ∷ 2 ∷ 3 ∷ 5 ∷ []) ≡ false
+  pub schedule-order : syncPreserving (trace reentered) (1 ∷ 3 ∷ 2 ∷ []) ≡ false
+  -- A pattern of outer acquires, before each of which its task has an inner section, and its witness.
   pub between-listed : listing between 0 ≡ (4 ∷ 10 ∷ []) ∷ []
   pub between-witness : witnessOut between (encode (4 ∷ 10 ∷ [])) (blank 12)
       ≡ encode (1 ∷ 2 ∷ 3 ∷ 7 ∷ 8 ∷ 9 ∷ [])
@@ -96,7 +111,7 @@ pub record SampleDepths : Type 0 where
   pub between-mixed : valid between (4 ∷ 10 ∷ []) (7 ∷ 1 ∷ 8 ∷ 2 ∷ 3 ∷ 9 ∷ []) ≡ true
   pub between-order : valid between (4 ∷ 10 ∷ []) (1 ∷ 3 ∷ 2 ∷ 7 ∷ 8 ∷ 9 ∷ []) ≡ false
   pub between-short : valid between (4 ∷ 10 ∷ []) (1 ∷ 7 ∷ 8 ∷ 9 ∷ []) ≡ false
-  -- An inner acquire is in no pattern.
+  -- An inner acquire is in no pattern: its own lock would be a common held lock.
   pub twice-listed : listing twice 0 ≡ (2 ∷ 8 ∷ []) ∷ []
   pub twice-inner : verdict twice (encode (3 ∷ 8 ∷ [])) ≡ noPattern
   -- The section before the pattern's is whole, its inner one included.
@@ -104,7 +119,7 @@ pub record SampleDepths : Type 0 where
   pub earlier-witness : witnessOut earlier (encode (2 ∷ 10 ∷ [])) (blank 12)
       ≡ encode (1 ∷ 5 ∷ 6 ∷ 7 ∷ 8 ∷ 9 ∷ [])
   -- Load: held after events 1, 2, 3 and 5 of 5.
-  pub load-deep : load nested 0 ≡ record { refusal = 0; event = 0; percent = 80 }
+  pub load-deep : load reentered 0 ≡ record { refusal = 0; event = 0; percent = 80 }
 
 -- Every sample of depths holds, by computation.
 pub sampleDepths : SampleDepths
@@ -115,7 +130,9 @@ sampleDepths = record {
   depth-inner = refl;
   depth-back = refl;
   depth-last = refl;
+  depth-meanwhile = refl;
   depth-other = refl;
+  depth-own = refl;
   depth-large = refl;
   five-deep = refl;
   five-kept = refl;
@@ -127,6 +144,9 @@ sampleDepths = record {
   inner-acquire = refl;
   inner-release = refl;
   outer-release = refl;
+  unreleased = refl;
+  second-section = refl;
+  crossed = refl;
   closes-outer = refl;
   closes-inner = refl;
   schedule-outer = refl;

@@ -13,7 +13,7 @@ use Rattle.laws.specs.Sizes.{tableLength}
 use Rattle.laws.specs.Walk.{First}
 use Rattle.laws.specs.Returning.{Covers}
 
--- An acquire at which its task holds a lock.
+-- An outer acquire at which its task holds a lock: another one, then.
 abbrev pub isNested : Trace → ℕ → Bool
 isNested σ e = isAcquire σ e && not (eqb (held σ e) 0)
 

@@ -1,5 +1,5 @@
--- The tables of a recording: for each event 1 to n what the definitions say of it. All that builds on them
--- rests on this record alone.
+-- The tables of a recording: for each event 1 to n what the definitions say of it, but that the table of
+-- matches has an inner event's own number. All that builds on them rests on this record alone.
 use Prim.Native.Nat.{ℕ, _≤_}
 use mathlib.Core.Path.{_≡_}
 use mathlib.Core.Bool.{true}
@@ -25,7 +25,7 @@ pub record Long (operations tasks objects holding predecessors writers matches :
   pub writer-long : length writers ≡ tableLength
   pub matching-long : length matches ≡ tableLength
 
--- Each table has its relation at the index of each event.
+-- Each table has its relation at the index of each event, that of matches with marks for inner ones.
 pub record Tables (σ : Trace) (operations tasks objects holding predecessors writers matches : List ℕ)
     : Type 0 where
   pub long : Long operations tasks objects holding predecessors writers matches

@@ -17,8 +17,8 @@ isListed σ last e = cond (eqb e 0) false (leb e (getD last (task σ e) 0))
 unfoldable pub isNext : Trace → List ℕ → ℕ → Bool
 isNext σ last e = eqb (predecessor σ e) (getD last (task σ e) 0)
 
--- The acquire finds its lock free and keeps lock order: no acquire of the lock is listed, or the latest one
--- is earlier and its match is listed.
+-- The outer acquire finds its lock free and keeps lock order: no outer acquire of the lock is listed, or the
+-- latest one is earlier and its match is listed.
 unfoldable pub isUnlocked : Trace → List ℕ → List ℕ → ℕ → Bool
 isUnlocked σ last acquires e =
     let latest = getD acquires (object σ e) 0 in

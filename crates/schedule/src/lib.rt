@@ -43,8 +43,8 @@ fn is_next(records: &[u8], predecessors: &[u16], last: &[u16], e: u16) -> bool
     predecessors[at] == last[recording::task(records, at) as usize]
 }
 
-// Whether acquire e finds its lock free and keeps lock order: no acquire of it is listed, or the latest one
-// is earlier and its match is listed.
+// Whether the outer acquire e finds its lock free and keeps lock order: no outer acquire of it is listed, or
+// the latest one is earlier and its match is listed.
 fn is_unlocked(records: &[u8], matches: &[u16], last: &[u16], acquires: &[u16], e: u16) -> bool
     requires { ⌜ (1 ≤ e) × (2 * e ≤ length (now records)) × (length (now records) ≤ recordsLength)
         × (length (now matches) ≡ tableLength) × (length (now last) ≡ tasks) × (length (now acquires) ≡ locks)
