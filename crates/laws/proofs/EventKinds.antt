@@ -13,7 +13,8 @@ use Rattle.laws.proofs.Tests.{decided, equal?}
 
 -- The kind of an operation at a depth.
 abbrev kindOf : ℕ → ℕ → ℕ
-kindOf op d = cond ((eqb op 2 && not (eqb d 0)) || (eqb op 3 && not (eqb d 1))) innerKind op
+kindOf op d =
+    cond ((eqb op 2 && not (eqb op 2 && eqb d 0)) || (eqb op 3 && not (eqb op 3 && eqb d 1))) innerKind op
 
 -- What holds of each operation and depth holds of all.
 by-operation : (P : ℕ → ℕ → Type 0) → ((d : ℕ) → P 2 d) → ((d : ℕ) → P 3 d)
@@ -26,7 +27,7 @@ by-operation P two three other op d =
 module _ (σ : Trace) (e : ℕ) {k : ℕ} (q : k ≡ kind σ e) where
   -- An outer acquire's kind is 2,
   pub isAcquire-kind : isAcquire σ e ≡ eqb k 2
-  unfolding kind isInner isAcquire enters leaves
+  unfolding kind isInner isAcquire isRelease enters leaves
   isAcquire-kind =
       rw q (by-operation (λ op d. (eqb op 2 && eqb d 0) ≡ eqb (kindOf op d) 2)
       (λ d. decided (eqb d 0) (λ y. rw y) (λ n. rw n))
@@ -35,7 +36,7 @@ module _ (σ : Trace) (e : ℕ) {k : ℕ} (q : k ≡ kind σ e) where
 
   -- an outer release's is 3,
   pub isRelease-kind : isRelease σ e ≡ eqb k 3
-  unfolding kind isInner isRelease enters leaves
+  unfolding kind isInner isAcquire isRelease enters leaves
   isRelease-kind =
       rw q (by-operation (λ op d. (eqb op 3 && eqb d 1) ≡ eqb (kindOf op d) 3)
       (λ d. decided (eqb d 0) (λ y. rw y) (λ n. rw n))
@@ -70,15 +71,15 @@ module _ (σ : Trace) (e : ℕ) where
 module _ (σ : Trace) (e : ℕ) {op : ℕ} (q : op ≡ at σ e .op) where
   -- The kind of a read or a write is its operation.
   pub kind-access : op < 2 → op ≡ kind σ e
-  unfolding kind isInner enters leaves
+  unfolding kind isInner isAcquire isRelease enters leaves
   kind-access h = rw (← q, ne-eqb op 2 (omega arith), ne-eqb op 3 (omega arith))
 
   -- That of an acquire is its operation at depth 0,
   pub kind-enter : op ≡ 2 → (d : ℕ) → ownDepth σ e ≡ d → cond (eqb d 0) 2 innerKind ≡ kind σ e
-  unfolding kind isInner enters leaves
+  unfolding kind isInner isAcquire isRelease enters leaves
   kind-enter a d p = rw (← q, a, p) (decided (eqb d 0) (λ y. rw y) (λ n. rw n))
 
   -- and that of a release at depth 1.
   pub kind-leave : op ≡ 3 → (d : ℕ) → ownDepth σ e ≡ d → cond (eqb d 1) 3 innerKind ≡ kind σ e
-  unfolding kind isInner enters leaves
+  unfolding kind isInner isAcquire isRelease enters leaves
   kind-leave a d p = rw (← q, a, p) (decided (eqb d 1) (λ y. rw y) (λ n. rw n))

@@ -2,8 +2,7 @@
 -- a kind of their own, or by a mark among the matches. Laws are in proofs/EventKinds and proofs/Marks.
 use Prim.Native.Nat.{ℕ}
 use mathlib.Core.Bool.{Bool, cond, not, _&&_, _||_}
-use lib.Dec.{eqb}
-use Rattle.model.specs.Trace.{Trace, at, enters, leaves, ownDepth}
+use Rattle.model.specs.Trace.{Trace, at, enters, leaves, isAcquire, isRelease}
 use Rattle.model.specs.Relations.{matching}
 
 -- The kind of an inner acquire or release, which is no operation's number.
@@ -12,7 +11,7 @@ innerKind = 4
 
 -- An inner acquire or release.
 unfoldable pub isInner : Trace → ℕ → Bool
-isInner σ e = (enters σ e && not (eqb (ownDepth σ e) 0)) || (leaves σ e && not (eqb (ownDepth σ e) 1))
+isInner σ e = (enters σ e && not (isAcquire σ e)) || (leaves σ e && not (isRelease σ e))
 
 -- An event's kind: its operation, unless it is an inner one.
 unfoldable pub kind : Trace → ℕ → ℕ
