@@ -68,8 +68,8 @@ pub record SampleDepths : Type 0 where
   pub depth-other : depth (trace reentered) 6 1 0 ≡ 1
   pub depth-own : depth (trace reentered) 6 0 0 ≡ 0
   pub depth-large : depth (trace (recording (by 0 (replicate 256 (acq 0))))) 257 0 0 ≡ 256
-  -- 5 only where another task holds the lock: at depth 2, and at depth 1 again; not once it is given back, but
-  -- for its first holder, once another task has it.
+  -- 5 only where another task holds the lock: at depth 2, and at depth 1 again; not once it is given back;
+  -- and for its first holder, once another task has it.
   pub five-deep : check (recording (by 0 (acq 0 ∷ acq 0 ∷ []) ++ by 1 (acq 0 ∷ []))) ≡ outcome 5 3
   pub five-kept : check (recording (by 0 (acq 0 ∷ acq 0 ∷ rel 0 ∷ []) ++ by 1 (acq 0 ∷ []))) ≡ outcome 5 4
   pub five-not : check reentered ≡ outcome 0 0
