@@ -1,6 +1,6 @@
 -- The faults of an event by its operation, and which event's fault decides the check. Assumes nothing.
 use Prim.Native.Nat.{ℕ, _-_, _≤_, _<_}
-use mathlib.Core.Path.{_≡_}
+use mathlib.Core.Path.{_≡_, _∙_}
 use mathlib.Core.Logic.{⊎-elim, _≢_}
 use mathlib.Core.Bool.{false, cond, _&&_}
 use native.Mathlib.Omega.{arith}
@@ -38,6 +38,18 @@ module _ (σ : Trace) (e : ℕ) {op : ℕ} (q : op ≡ at σ e .op) where
   pub leaves-op : leaves σ e ≡ eqb op 3
   unfolding leaves
   leaves-op = rw q
+
+  -- So an acquire's operation enters a lock,
+  pub enters-is : op ≡ 2 → T (enters σ e)
+  enters-is a = rw (enters-op, a) tt
+
+  -- a release's leaves one,
+  pub leaves-is : op ≡ 3 → T (leaves σ e)
+  leaves-is a = rw (leaves-op, a) tt
+
+  -- and a read's or a write's does neither.
+  pub accesses-is : op < 2 → (enters σ e ≡ false) × (leaves σ e ≡ false)
+  accesses-is h = (enters-op ∙ ne-eqb op 2 (omega arith), leaves-op ∙ ne-eqb op 3 (omega arith))
 
   -- For an outer acquire also the depth.
   pub isAcquire-op : isAcquire σ e ≡ (eqb op 2 && eqb (ownDepth σ e) 0)

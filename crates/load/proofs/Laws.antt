@@ -7,16 +7,16 @@ use mathlib.Core.Bool.{Bool, cond}
 use mathlib.Core.List.{_∷_, []}
 use native.Mathlib.Numerals.{add-one}
 use native.Mathlib.Omega.{arith}
-use lib.Dec.{T, ltb}
+use lib.Dec.{ltb}
 use lib.ListN.{length, length-append}
 use borrow.Author.Tests.{eq-eqb, ne-eqb, lt-ltb, le-ltb}
 use Rattle.model.specs.Lists.{filter, from}
-use Rattle.model.specs.Trace.{Trace, at, object, enters, leaves}
+use Rattle.model.specs.Trace.{Trace, at, object}
 use Rattle.model.specs.Calls.Load.{isHeldAfter, percent}
 use Rattle.laws.specs.Walked.{LockDepth}
 use Rattle.laws.proofs.Tests.{decided}
 use Rattle.laws.proofs.Filters.{filter-next}
-use Rattle.laws.proofs.Faults.{enters-op, leaves-op}
+use Rattle.laws.proofs.Faults.{enters-is, leaves-is, accesses-is}
 use Rattle.laws.proofs.WellFormed.{WellFormed}
 use Rattle.laws.proofs.LockDepth.{lockDepth-access, lockDepth-apart, lockDepth-enter, lockDepth-leave}
 use Rattle.laws.proofs.LockDepth.{lockDepth-any, lockDepth-fits}
@@ -37,9 +37,8 @@ module _ {σ : Trace} {e op l d : ℕ} (u : Coming σ e op l d) where
   -- A read or a write leaves the depth.
   pub access-depth : op < 2 → LockDepth σ (e + 1) l d
   access-depth a =
-      rw (add-one e)
-      (lockDepth-access σ (enters-op σ e (u .op-is .1) ∙ ne-eqb op 2 (omega arith))
-      (leaves-op σ e (u .op-is .1) ∙ ne-eqb op 3 (omega arith)) (u .depth-is))
+      let (no-enter, no-leave) = accesses-is σ e (u .op-is .1) a in
+      rw (add-one e) (lockDepth-access σ no-enter no-leave (u .depth-is))
 
   module _ {o : ℕ} (q : o ≡ object σ e) where
     -- So does an event of another lock.
@@ -53,14 +52,13 @@ module _ {σ : Trace} {e op l d : ℕ} (u : Coming σ e op l d) where
       -- An acquire of the lock goes one deeper.
       pub enter-depth : op ≡ 2 → LockDepth σ (e + 1) l (d + 1)
       enter-depth a =
-          let entered : T (enters σ e) = rw (enters-op σ e (u .op-is .1), a) tt in
+          let entered = enters-is σ e (u .op-is .1) a in
           rw (add-one e, add-one d, sym r ∙ q) (lockDepth-enter σ (u .sound) entered own .1)
 
       -- A release goes back by one, from a depth above 0.
       pub leave-depth : 2 ≤ op → op ≢ 2 → (0 < d) × LockDepth σ (e + 1) l (d - 1)
       leave-depth a n =
-          let left : T (leaves σ e) =
-          rw (leaves-op σ e (u .op-is .1), eq-eqb op 3 (omega (arith, u .op-is))) tt in
+          let left = leaves-is σ e (u .op-is .1) (omega (arith, u .op-is)) in
           let (_, deep, after) = lockDepth-leave σ (u .sound) left own in
           (deep, rw (add-one e, sym r ∙ q) after)
 

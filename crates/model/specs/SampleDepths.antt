@@ -55,11 +55,11 @@ pub record SampleDepths : Type 0 where
   pub inner-release : relations reentered 3 ≡ related 1 1 0 0 2
   pub outer-release : relations reentered 4 ≡ related 1 1 1 0 3
   -- An outer acquire that is released to depth 1 alone has match 0; of two sections of one task each release
-  -- has its own; two locks are released in any order.
+  -- has its own.
   pub unreleased : relations (recording (by 0 (acq 0 ∷ acq 0 ∷ rel 0 ∷ []))) 1 ≡ related 0 0 0 0 0
   pub second-section : relations (recording (by 0 (acq 0 ∷ acq 0 ∷ rel 0 ∷ rel 0 ∷ acq 0 ∷ rel 0 ∷ []))) 6
       ≡ related 1 1 5 0 5
-  -- Lock 1 is given back first, though lock 0 was taken again last.
+  -- Two locks, of which the one that was taken again first is given back first.
   pub crossed : relations crossing 6 ≡ related 3 2 2 0 5
   -- Load: held after events 1, 2, 3 and 5 of 5.
   pub load-deep : load reentered 0 ≡ record { refusal = 0; event = 0; percent = 80 }

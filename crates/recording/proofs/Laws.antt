@@ -9,7 +9,7 @@ use native.Mathlib.Omega.{arith}
 use lib.Dec.{T}
 use lib.ListN.{length, getD, set, replicate, length-set, length-replicate}
 use borrow.Author.Tests.{eq-eqb, ne-eqb}
-use Rattle.model.specs.Trace.{Trace, locks, variables, at, task, object, isWrite, enters, leaves}
+use Rattle.model.specs.Trace.{Trace, locks, variables, at, task, object, isWrite}
 use Rattle.model.specs.Relations.{holds, writer}
 use Rattle.model.specs.Recording.{decodeAll}
 use Rattle.model.specs.WellFormed.{isFree, fault}
@@ -20,7 +20,7 @@ use Rattle.laws.proofs.Tests.{equal?}
 use Rattle.laws.proofs.Trace.{decodeAll-length}
 use Rattle.laws.proofs.LatestEvents.{latest-start, latest-set, latest-keep, latest-writer}
 use Rattle.laws.proofs.Kept.{holders-start, holders-access}
-use Rattle.laws.proofs.Faults.{isRead-op, isWrite-op, enters-op, leaves-op, fault-lock, fault-acquire}
+use Rattle.laws.proofs.Faults.{isRead-op, isWrite-op, accesses-is, fault-lock, fault-acquire}
 use Rattle.laws.proofs.Faults.{fault-release, fault-write, fault-read, checkEvents-fault, checkEvents-none}
 use Rattle.recording.specs.Asked.{Asked}
 
@@ -63,8 +63,7 @@ module _ {σ : Trace} {e op o : ℕ} {holders depths writes : List ℕ} (u : Com
     -- A read or a write leaves the holders.
     unlocked : op < 2 → Holders σ (suc e) holders depths
     unlocked a =
-        holders-access (enters-op σ e is-op ∙ ne-eqb op 2 (omega arith))
-        (leaves-op σ e is-op ∙ ne-eqb op 3 (omega arith)) (z .holder)
+        let (no-enter, no-leave) = accesses-is σ e is-op a in holders-access no-enter no-leave (z .holder)
 
     -- A read whose variable has no write.
     pub read-refused : op ≡ 0 → getD writes o 0 ≡ 0 → Answer σ e 7 holders depths writes
@@ -116,14 +115,6 @@ module _ {σ : Trace} {e op o : ℕ} {holders depths writes : List ℕ} (u : Com
       q,
       λ none. next h d writes (sym q ∙ none) (rw (add-one e) at (f none)) (z .long) (unwritten n),
     )
-
-    -- The event of an acquire's operation enters its lock,
-    pub entering : op ≡ 2 → T (enters σ e)
-    entering a = rw (enters-op σ e is-op, a) tt
-
-    -- and that of a release's leaves it.
-    pub leaving : op ≡ 3 → T (leaves σ e)
-    leaving a = rw (leaves-op σ e is-op, a) tt
 
     -- An acquire, by what question 5 answers.
     pub acquired : op ≡ 2 → o < 64 → (r : ℕ) (h d : List ℕ)

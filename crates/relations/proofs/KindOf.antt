@@ -1,4 +1,5 @@
--- The kind of one event by the depth of its lock, and the depth after it. Assumes nothing.
+-- The kind of one event, of an acquire by its held locks and of a release by the depth of its lock, and the
+-- depths after it. Assumes nothing.
 use Prim.Native.Nat.{ℕ, zero, suc, _+_, _-_, _≤_, _<_}
 use mathlib.Core.Path.{_≡_, sym, _∙_}
 use mathlib.Core.Logic.{⊎-elim, _≢_}
@@ -14,7 +15,7 @@ use Rattle.model.specs.Trace.{Trace, tasks, locks, at, task, object, enters, le
 use Rattle.model.specs.Relations.{held}
 use Rattle.laws.specs.Walked.{Kept, LockDepths}
 use Rattle.laws.proofs.Tests.{or-l, or-r, equal?}
-use Rattle.laws.proofs.Faults.{enters-op, leaves-op}
+use Rattle.laws.proofs.Faults.{enters-is, leaves-is, accesses-is}
 use Rattle.laws.specs.EventKinds.{innerKind, kind}
 use Rattle.laws.proofs.EventKinds.{kind-access, kind-enter, kind-leave}
 use Rattle.laws.proofs.Relations.{held-bit}
@@ -45,15 +46,15 @@ module _ {σ : Trace} {e op : ℕ} {depths : List ℕ} (u : Coming σ e op depth
   access-kind h = (
     omega (arith, u .op-is),
     kind-access σ e is-op h,
-    rw (add-one e) (lockDepths-access (enters-op σ e is-op ∙ ne-eqb op 2 (omega arith))
-        (leaves-op σ e is-op ∙ ne-eqb op 3 (omega arith)) (u .depths-are)),
+    let (no-enter, no-leave) = accesses-is σ e is-op h in
+        rw (add-one e) (lockDepths-access no-enter no-leave (u .depths-are)),
   )
 
   entered : op ≡ 2 → T (enters σ e)
-  entered a = rw (enters-op σ e is-op, a) tt
+  entered = enters-is σ e is-op
 
   left : op ≡ 3 → T (leaves σ e)
-  left a = rw (leaves-op σ e is-op, a) tt
+  left = leaves-is σ e is-op
 
   module _ {o : ℕ} (q : o ≡ object σ e) where
     -- The object of an acquire or a release is a lock.
@@ -70,8 +71,8 @@ module _ {σ : Trace} {e op : ℕ} {depths : List ℕ} (u : Coming σ e op depth
     pub depth-fits : 2 ≤ op → getD depths o 0 ≤ e
     depth-fits h = kept-fits (u .event .0) (kept-at h .1)
 
-    unmoved : 2 ≤ op → (h : ℕ) → Kept σ (suc e) (object σ e) h (getD depths o 0) → LockDepths σ (e + 1) depths
-    unmoved i h z = rw (add-one e) (lockDepths-keep (u .depths-are) (rw q at z))
+    unmoved : (h : ℕ) → Kept σ (suc e) (object σ e) h (getD depths o 0) → LockDepths σ (e + 1) depths
+    unmoved h z = rw (add-one e) (lockDepths-keep (u .depths-are) (rw q at z))
 
     moved : 2 ≤ op → (h x : ℕ) → Kept σ (suc e) (object σ e) h x → LockDepths σ (e + 1) (set depths o x)
     moved i h x z = rw (add-one e, q) (lockDepths-set (u .depths-are) (rw q at (lock-small i)) z)
@@ -94,7 +95,7 @@ module _ {σ : Trace} {e op : ℕ} {depths : List ℕ} (u : Coming σ e op depth
           go : (h : ℕ) → Kept σ e (object σ e) h (getD depths o 0) → Kind σ e 2 depths
           go zero z =
               let (own, after) = kept-first small (entered a) z in
-              (omega (arith, u .op-is), kind-enter σ e is-op a 0 own, unmoved (omega arith) _ after)
+              (omega (arith, u .op-is), kind-enter σ e is-op a 0 own, unmoved _ after)
           go (suc t) z =
               let (free, bit) = holder-is (suc t) z in
               absurd (rw (sym bit ∙ n, eqb·suc-zero t) at free)
@@ -132,7 +133,7 @@ module _ {σ : Trace} {e op : ℕ} {depths : List ℕ} (u : Coming σ e op depth
       leave-outer d = (
         omega (arith, u .op-is),
         leave-kind 3 (rw (eq-eqb (getD depths o 0) 1 d)),
-        unmoved (omega arith) 0 (kept-freed small own (left a) d),
+        unmoved 0 (kept-freed small own (left a) d),
       )
 
       -- and of one to above.

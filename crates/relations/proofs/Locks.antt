@@ -1,4 +1,5 @@
--- What noting one event does to the tables of held locks and matches, by its kind. Assumes nothing.
+-- What noting one event does to the table of the tasks' locks and to that of matches, by its kind.
+-- Assumes nothing.
 use Prim.Native.Nat.{ℕ, _+_, _-_, _*_, _%_, _^_, _≤_, _<_}
 use mathlib.Core.Path.{_≡_, _∙_}
 use mathlib.Core.Logic.{⊎-elim, _≢_}
@@ -53,7 +54,7 @@ module _ {σ : Trace} {e k : ℕ} (u : OfKind σ e k) where
           (λ a. or-l (isAcquire σ e) _ (rw (acquire a) tt))
           (λ d. or-r (isAcquire σ e) _ (rw (release (omega arith)) tt)) (equal? k 2)
 
-  -- ---- held locks
+  -- ---- the tasks' locks
 
   module _ {t : ℕ} (is-task : (t < tasks) × (t ≡ task σ e)) (locksets : List ℕ) (z : Locksets σ e locksets)
     where

@@ -5,8 +5,9 @@ use native.Mathlib.Omega.{arith}
 use borrow.Author.Needs.{needs}
 use Rattle.model.specs.Trace.{locks, object}
 use Rattle.model.specs.Recording.{decodeAll}
-use Rattle.recording.proofs.Laws.{Coming, read-refused, read-passed, written, no-lock, entering}
-use Rattle.recording.proofs.Laws.{acquired, leaving, released}
+use Rattle.laws.proofs.Faults.{enters-is, leaves-is}
+use Rattle.recording.proofs.Laws.{Coming, read-refused, read-passed, written, no-lock, acquired}
+use Rattle.recording.proofs.Laws.{released}
 use Rattle.recording.proofs.ask.Statement.{statement}
 use Rattle.recording.proofs.ask.Tie as tie
 
@@ -89,7 +90,7 @@ enter-requires c κs =
       s .pre .0,
       s .pre .1,
       s .pre .2,
-      entering (unpacked u) (c .before .before .if5 .taken),
+      enters-is _ _ (unpacked u .op-is .1) (c .before .before .if5 .taken),
       small,
       s .pre .3 .holder,
     )
@@ -112,7 +113,8 @@ leave-requires c κs =
     let s = start u in
     let small : object (decodeAll (s .args .records .now)) (s .args .e) < locks =
     omega (arith, c .before .before .before .if4 .left, u .object .ensures) in
-    (s .pre .0, s .pre .1, leaving (unpacked u) (release (c .before .before)), small, s .pre .3 .holder)
+    let left = leaves-is _ _ (unpacked u .op-is .1) (release (c .before .before)) in
+    (s .pre .0, s .pre .1, left, small, s .pre .3 .holder)
 
 same-length-4 : tie.Need-same-length-4
 same-length-4 c = search needs
