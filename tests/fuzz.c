@@ -221,7 +221,7 @@ static bool is_pattern(struct bytes recording, struct bytes pattern) {
 /* How tasks walk, with chances in per cent. */
 struct walk {
     size_t tasks, locks, variables;
-    /* A task takes a free lock where fewer acquires of it than these are not released. */
+    /* A task takes a free lock where fewer of its acquires than these are not released. */
     size_t depth;
     /* The chance that a task that holds a lock takes its newest one again. */
     size_t again;
@@ -289,8 +289,8 @@ static size_t next_lock(const struct walk *walk, const struct state *state, size
     return (count == 0 ? t : state->held[t][count - 1] + (size_t)1) % walk->locks;
 }
 
-/* One event of a task, but for its task: it takes a free lock, its newest one again, releases one, or reads or
- * writes. */
+/* One event of a task, but for its task: it takes a free lock, its newest one again, releases one, or reads
+ * or writes. */
 static size_t step(const struct walk *walk, struct state *state, size_t t) {
     uint8_t *own = state->held[t];
     size_t lock = next_lock(walk, state, t);

@@ -10,7 +10,7 @@ ghost use lib.ListN.{length, getD, drop, replicate};
 ghost use lib.Seq.{sets};
 ghost use Rattle.model.specs.Lists.{all, hasBit};
 ghost use Rattle.model.specs.Bytes.{encode, numbers, isWhole};
-ghost use Rattle.model.specs.Trace.{tasks, locks, task, object, isEvent, isAcquire};
+ghost use Rattle.model.specs.Trace.{tasks, task, object, isEvent, isAcquire};
 ghost use Rattle.model.specs.Recording.{decodeAll};
 ghost use Rattle.model.specs.Relations.{held};
 ghost use Rattle.model.specs.Pattern.{isPattern};
@@ -55,7 +55,7 @@ pub fn is_acquire(records: &[u8], mask: u64, e: usize) -> bool
     !recording::in_mask(mask, recording::object(records, e) as u64)
 }
 
-// The number e is that of an acquire, with which a pattern may begin.
+// The number e is that of an outer acquire, with which a pattern may begin.
 fn begins(records: &[u8], holding: &[u64], e: usize) -> bool
     requires { ⌜ (length (now records) ≤ recordsLength) × (checkEvents (decodeAll (now records)) .refusal ≡ 0)
         × Holding (decodeAll (now records)) (now holding) ⌝ }

@@ -34,7 +34,7 @@ fn earlier(a: u16, b: u16) -> u16
     b
 }
 
-// Wants the match of the outer acquire e, which is an event of the same task.
+// Wants, in the task of event e, what the table has as its match: of an outer acquire its match.
 fn want_match(records: &[u8], matches: &[u16], want: &mut [u16], e: u16)
     requires { ⌜ (1 ≤ e) × (2 * e ≤ length (now records)) × (e < length (now matches))
         × (getD (now matches) e 0 ≡ marked (decodeAll (now records)) e) × (length (now want) ≡ tasks) ⌝ }
@@ -59,8 +59,8 @@ fn visit_read(records: &[u8], writers: &[u16], want: &mut [u16], f: u16)
     raise(want, recording::task(records, w as usize) as usize, w);
 }
 
-// Visits acquire f: notes it where it is later than the latest one of its lock that was visited before, and
-// wants the match of the earlier of the two, where there are two.
+// Visits the outer acquire f: notes it where it is later than the latest one of its lock that was visited
+// before, and wants the match of the earlier of the two, where there are two.
 fn visit_acquire(records: &[u8], matches: &[u16], want: &mut [u16], latest: &mut [u16], f: u16)
     requires { ⌜ (1 ≤ f) × (2 * f ≤ length (now records)) × (f < length (now matches))
         × ((e : ℕ) → 1 ≤ e → e ≤ length (decodeAll (now records))

@@ -6,9 +6,8 @@ use mathlib.Core.Bool.{true, false, cond, not, _&&_, _||_}
 use native.Mathlib.Omega.{arith}
 use lib.Dec.{T, eqb}
 use borrow.Author.Tests.{ne-eqb}
-use Rattle.model.specs.Trace.{Trace, at, enters, leaves, ownDepth, isAcquire}
-use Rattle.model.specs.Trace.{isRelease}
-use Rattle.laws.specs.EventKinds.{innerKind, isInner, kind}
+use Rattle.model.specs.Trace.{Trace, at, enters, leaves, ownDepth, isAcquire, isRelease, isInner}
+use Rattle.laws.specs.EventKinds.{innerKind, kind}
 use Rattle.laws.proofs.Tests.{decided, equal?}
 
 -- The kind of an operation at a depth.

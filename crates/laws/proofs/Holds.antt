@@ -64,10 +64,10 @@ module _ (σ : Trace) where
           (omega (arith, depth-enter σ e t l (isAcquire-iff σ e .0 (rw a tt) .0) p q))
 
   -- The task of an outer release does not hold its lock.
-  pub holds-release : (e t l : ℕ) → isAcquire σ e ≡ false → isRelease σ e ≡ true → object σ e ≡ l
+  pub holds-release : (e t l : ℕ) → isRelease σ e ≡ true → object σ e ≡ l
       → holds σ (suc e) t l ≡ (not (eqb (task σ e) t) && holds σ e t l)
   unfolding holds
-  holds-release e t l a r q =
+  holds-release e t l r q =
       decided (eqb (task σ e) t)
       (λ y. rw y (given (eqb-true (task σ e) t y)))
       (λ n. rw n (holds-other e t l (eqb-false (task σ e) t n)))

@@ -13,7 +13,7 @@ use borrow.Author.Tests.{ne-eqb, eqb-true}
 use Rattle.model.specs.Trace.{Trace, tasks, locks, task, object, enters, leaves, depth, ownDepth}
 use Rattle.model.specs.Relations.{holds}
 use Rattle.model.specs.WellFormed.{isFree}
-use Rattle.laws.specs.Walked.{Holder, kept, Kept, Holders, LockDepths}
+use Rattle.laws.specs.Walked.{Holder, kept, Kept, Holders, KeptDepths}
 use Rattle.laws.proofs.Tests.{equal?, or-r, eq→eqb}
 use Rattle.laws.proofs.Depth.{depth-apart, depth-access}
 use Rattle.laws.proofs.Holders.{holder-deep, holder-holds, holder-free, holder-start, holder-keep}
@@ -143,9 +143,9 @@ module _ {σ : Trace} where
 
   -- ---- tables of depths
 
-  -- Before event 1 no lock has a holder.
-  pub lockDepths-start : LockDepths σ 1 (replicate locks 1)
-  lockDepths-start = record {
+  -- Before event 1 every lock has the entry of depth 0.
+  pub keptDepths-start : KeptDepths σ 1 (replicate locks 1)
+  keptDepths-start = record {
     long = length-replicate {A = ℕ} locks 1;
     at = λ l h. (
       0,
@@ -154,9 +154,9 @@ module _ {σ : Trace} where
   }
 
   -- The event's lock keeps its depth, whichever holder it gets,
-  pub lockDepths-keep : {e h : ℕ} {table : List ℕ} → LockDepths σ e table
-      → Kept σ (suc e) (object σ e) h (getD table (object σ e) 0) → LockDepths σ (suc e) table
-  lockDepths-keep {e} {h} {table} z n = record {
+  pub keptDepths-keep : {e h : ℕ} {table : List ℕ} → KeptDepths σ e table
+      → Kept σ (suc e) (object σ e) h (getD table (object σ e) 0) → KeptDepths σ (suc e) table
+  keptDepths-keep {e} {h} {table} z n = record {
     long = z .long;
     at = λ l k. ⊎-elim (λ (q : l ≡ object σ e). rw q (h, n))
         (λ m. (z .at l k .0, kept-keep (λ t. depth-apart σ e t l (λ q. m (sym q))) (z .at l k .1)))
@@ -164,9 +164,9 @@ module _ {σ : Trace} where
   }
 
   -- or gets another depth.
-  pub lockDepths-set : {e h x : ℕ} {table : List ℕ} → LockDepths σ e table → object σ e < locks
-      → Kept σ (suc e) (object σ e) h x → LockDepths σ (suc e) (set table (object σ e) x)
-  lockDepths-set {e} {h} {x} {table} z b n = record {
+  pub keptDepths-set : {e h x : ℕ} {table : List ℕ} → KeptDepths σ e table → object σ e < locks
+      → Kept σ (suc e) (object σ e) h x → KeptDepths σ (suc e) (set table (object σ e) x)
+  keptDepths-set {e} {h} {x} {table} z b n = record {
     long = length-set table (object σ e) x ∙ z .long;
     at = λ l k. ⊎-elim
         (λ (q : l ≡ object σ e).
@@ -177,9 +177,9 @@ module _ {σ : Trace} where
   }
 
   -- A read or a write leaves them.
-  pub lockDepths-access : {e : ℕ} {table : List ℕ} → enters σ e ≡ false → leaves σ e ≡ false
-      → LockDepths σ e table → LockDepths σ (suc e) table
-  lockDepths-access {e} a r z = record {
+  pub keptDepths-access : {e : ℕ} {table : List ℕ} → enters σ e ≡ false → leaves σ e ≡ false
+      → KeptDepths σ e table → KeptDepths σ (suc e) table
+  keptDepths-access {e} a r z = record {
     long = z .long;
     at = λ l h. (z .at l h .0, kept-keep (λ t. depth-access σ e t l a r) (z .at l h .1));
   }

@@ -101,11 +101,10 @@ module _ (σ : Trace) where
 
   -- An outer release clears its lock's bit, which is set.
   pub locksets-release : (e : ℕ) (table : List ℕ) → Locksets σ e table → task σ e < tasks
-      → isAcquire σ e ≡ false → isRelease σ e ≡ true → object σ e < locks
-      → holds σ e (task σ e) (object σ e) ≡ true
+      → isRelease σ e ≡ true → object σ e < locks → holds σ e (task σ e) (object σ e) ≡ true
       → Locksets σ (suc e) (set table (task σ e) (bitXor (getD table (task σ e) 0)
       (1 * 2 ^ object σ e % 2 ^ 64)))
-  locksets-release e table z b a r o h =
+  locksets-release e table z b r o h =
       locksets-set e (bitXor m (1 * 2 ^ l % 2 ^ 64)) table z b
       (rw (shift-one 64 l o) (xor-lt 64 m (2 ^ l) (z .fits (task σ e) b) (pow-lt o))) bits
     where
@@ -123,7 +122,7 @@ module _ (σ : Trace) where
             eq-eqb l j q,
             ← q,
             h,
-            holds-release σ e (task σ e) l a r refl,
+            holds-release σ e (task σ e) l r refl,
             eq-eqb
                 (task σ e) (task σ e) refl,
           ))

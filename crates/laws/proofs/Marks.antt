@@ -7,9 +7,9 @@ use mathlib.Core.Bool.{true, false, cond, not, _&&_}
 use lib.Dec.{T, eqb}
 use lib.ListN.{length}
 use borrow.Author.Tests.{eq-eqb, ne-eqb, eqb-true}
-use Rattle.model.specs.Trace.{Trace, at, enters, ownDepth, isAcquire}
+use Rattle.model.specs.Trace.{Trace, at, enters, ownDepth, isAcquire, isInner}
 use Rattle.model.specs.Relations.{matching}
-use Rattle.laws.specs.EventKinds.{isInner, marked}
+use Rattle.laws.specs.EventKinds.{marked}
 use Rattle.laws.proofs.Tests.{decided, cond-elim}
 use Rattle.laws.proofs.Relations.{matching-apart, matching-none, matching-le}
 use Rattle.laws.proofs.Faults.{enters-op}

@@ -12,9 +12,9 @@ use lib.ListN.{length, getD, set, length-set}
 use lib.Seq.{getD-set-same, getD-set-other}
 use borrow.Author.Tests.{ne-eqb, eqb-true}
 use Rattle.model.specs.Lists.{lastBefore, firstFrom}
-use Rattle.model.specs.Trace.{Trace, object, isAcquire, isRelease}
+use Rattle.model.specs.Trace.{Trace, object, isAcquire, isRelease, isInner}
 use Rattle.model.specs.Relations.{releaseOf, acquireOf, matching}
-use Rattle.laws.specs.EventKinds.{isInner, marked}
+use Rattle.laws.specs.EventKinds.{marked}
 use Rattle.laws.specs.Walked.{matchingBefore, Matches}
 use Rattle.laws.proofs.Tests.{parts, decided, is-true, equal?}
 use Rattle.laws.proofs.Searches.{firstFrom-more}

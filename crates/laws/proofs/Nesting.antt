@@ -1,24 +1,24 @@
--- Nested sections of a well-formed trace: a lock has at most one holder, which with its depth is the record
--- kept for it, and a depth is the task's acquires of the lock less its releases. Assumes nothing.
-use Prim.Native.Nat.{ℕ, zero, suc, _+_, _-_, _<_}
+-- Nested sections: an outer acquire's lock is held until its match; and in a well-formed trace a lock has at
+-- most one holder, and a depth is the task's acquires of the lock less its releases. Assumes nothing.
+use Prim.Native.Nat.{ℕ, zero, suc, _+_, _-_, _≤_, _<_}
 use mathlib.Core.Path.{_≡_, refl, sym, ap, _∙_}
 use mathlib.Core.Logic.{⊎-elim, _≢_}
-use mathlib.Core.Bool.{Bool, true, false, cond, _&&_}
-use mathlib.Core.List.{[], _∷_}
+use mathlib.Core.Bool.{Bool, cond, _&&_}
 use native.Mathlib.Omega.{arith}
-use lib.Dec.{T, T-not, not-T, eqb, eqb·zero-suc, eqb·suc-zero, eqb·suc-suc}
-use lib.ListN.{length, length-append}
-use borrow.Author.Tests.{eq-eqb, ne-eqb}
-use Rattle.model.specs.Lists.{any, filter, from}
-use Rattle.model.specs.Trace.{Trace, tasks, task, object, enters, leaves, operates, depth}
-use Rattle.model.specs.Relations.{holds}
-use Rattle.laws.specs.Walked.{Holder}
-use Rattle.laws.proofs.Tests.{decided, equal?, at-most?, is-true, is-false}
-use Rattle.laws.proofs.Lists.{any-iff, from-iff}
-use Rattle.laws.proofs.Filters.{filter-next}
-use Rattle.laws.proofs.Trace.{acquire-event}
+use lib.Dec.{T, T-not, not-T}
+use lib.ListN.{length}
+use borrow.Author.Tests.{eq-eqb}
+use Rattle.model.specs.Lists.{filter, from}
+use Rattle.model.specs.Trace.{Trace, tasks, task, object, enters, leaves, operates, depth, isAcquire}
+use Rattle.model.specs.Relations.{matching, holds}
+use Rattle.laws.proofs.Tests.{parts, and-i, equal?, at-most?, is-true, is-false}
+use Rattle.laws.proofs.Searches.{Earliest}
+use Rattle.laws.proofs.Filters.{filter-counts}
+use Rattle.laws.proofs.Trace.{sameTask-iff, sameObject-iff, acquire-event}
+use Rattle.laws.proofs.Relations.{releases, matching-earliest}
 use Rattle.laws.proofs.Depth.{Section, Moved, stays, deeper, back, holds-iff, depth-start, depth-moved}
-use Rattle.laws.proofs.Depth.{depth-opens, enters-leaves}
+use Rattle.laws.proofs.Depth.{depth-opens, depth-falls, depth-enter, depth-leave, own-depth, enters-leaves}
+use Rattle.laws.proofs.Depth.{isAcquire-iff, isRelease-iff}
 use Rattle.laws.proofs.WellFormed.{WellFormed, acquire-free, leave-held}
 
 -- The acquires of lock l by task t, from whatever depth.
@@ -28,6 +28,41 @@ entering σ t l f = operates σ t l f && enters σ f
 -- Its releases, to whatever depth.
 abbrev pub leaving : Trace → ℕ → ℕ → ℕ → Bool
 leaving σ t l f = operates σ t l f && leaves σ f
+
+module _ (σ : Trace) (e : ℕ) (a : T (isAcquire σ e)) where
+  -- ---- the section of an outer acquire
+
+  found : Earliest (suc e) (length σ - e) (releases σ e) (matching σ e)
+  found = matching-earliest σ e a
+
+  -- Its lock is held up to its match, or to the end where it has none,
+  pub held-to-match : (f : ℕ) → e < f → f ≤ suc (length σ) → (matching σ e ≢ 0 → f ≤ matching σ e)
+      → T (holds σ f (task σ e) (object σ e))
+  held-to-match f h k before =
+      ⊎-elim (λ z. absurd (freed z)) (λ d. holds-iff σ f _ _ .1 (omega arith))
+      (equal? (depth σ f (task σ e) (object σ e)) 0)
+    where
+      freed : depth σ f (task σ e) (object σ e) ≡ 0 → ⊥
+      freed z =
+          let deep = depth-enter σ e _ _ (isAcquire-iff σ e .0 a .0) refl refl in
+          let (q, i, j, release, of) = depth-falls σ _ _ (suc e) f h (omega arith) z in
+          let lock = sameObject-iff σ e q .1 (sym (of .object-is)) in
+          let task = sameTask-iff σ e q .1 (sym (of .task-is)) in
+          let releases : T (releases σ e q) = search (and-i, release, lock, task) in
+          let reach : q < suc e + (length σ - e) = omega (arith, acquire-event σ e a) in
+          let some = found .found q (omega arith) i reach releases in
+          omega (arith, before (omega arith), found .earliest q i reach releases)
+
+  -- which takes the depth to 0.
+  pub freed-by-match : matching σ e ≢ 0 → depth σ (suc (matching σ e)) (task σ e) (object σ e) ≡ 0
+  freed-by-match some =
+      let m = matching σ e in
+      let t = found .passes some in
+      let (left, one) = isRelease-iff σ m .0 (search parts) in
+      let lock = sameObject-iff σ e m .0 (search parts) in
+      let task = sameTask-iff σ e m .0 (search parts) in
+      let own = own-depth σ _ _ m (record { task-is = sym task; object-is = sym lock }) in
+      omega (arith, depth-leave σ m _ _ left (sym task) (sym lock))
 
 module _ (σ : Trace) (ok : WellFormed σ) where
   -- ---- one holder
@@ -55,52 +90,7 @@ module _ (σ : Trace) (ok : WellFormed σ) where
           T-not (holds σ b t l) (rw (r .of .object-is) at free)
           (holds-iff σ b t l .1 (s .within b i (omega (arith, r .before))))
 
-  -- So the record kept for each lock, holder and depth, says the depth of every task.
-  pub holder-record : (e l : ℕ) → (h : ℕ) × (d : ℕ) × Holder σ e l h d
-  holder-record e l =
-      decided (any (λ t. holds σ e t l) (from 0 tasks)) some none
-    where
-      some : any (λ t. holds σ e t l) (from 0 tasks) ≡ true → (h : ℕ) × (d : ℕ) × Holder σ e l h d
-      some y =
-          let (t, m, h) = any-iff (λ t. holds σ e t l) (from 0 tasks) .0 (rw y tt) in
-          (suc t, depth σ e t l, held t h)
-        where
-          held : (t : ℕ) → T (holds σ e t l) → Holder σ e l (suc t) (depth σ e t l)
-          held t h = record {
-            bound = holds-task e t l h;
-            at = λ u b. ⊎-elim
-                (λ (q : t ≡ u). rw q (sym (rw (eq-eqb (suc u) (suc u) refl))))
-                (λ n. sole u n ∙ rw (eqb·suc-suc t u, ne-eqb t u n)) (equal? t u);
-            none =
-                let deep = holds-iff σ e t l .0 h in
-                rw (eqb·suc-zero t) (sym (ne-eqb (depth σ e t l) 0 (omega arith)));
-          }
-            where
-              sole : (u : ℕ) → t ≢ u → depth σ e u l ≡ 0
-              sole u n =
-                  ⊎-elim (λ z. z)
-                  (λ d. absurd (n (holder-sole e t u l h (holds-iff σ e u l .1 (omega arith)))))
-                  (equal? (depth σ e u l) 0)
-
-      none : any (λ t. holds σ e t l) (from 0 tasks) ≡ false → (h : ℕ) × (d : ℕ) × Holder σ e l h d
-      none n = (0, 0, record { bound = omega arith; at = free; none = refl })
-        where
-          free : (t : ℕ) → t < tasks → depth σ e t l ≡ cond (eqb 0 (suc t)) 0 0
-          free t b =
-              rw (eqb·zero-suc t) (⊎-elim (λ z. z)
-              (λ d. absurd (rw n at (any-iff (λ t. holds σ e t l) (from 0 tasks) .1
-              (t, from-iff 0 tasks t .1 (omega arith, omega arith), holds-iff σ e t l .1 (omega arith)))))
-              (equal? (depth σ e t l) 0))
-
   -- ---- acquires less releases
-
-  more : (p : ℕ → Bool) (e : ℕ)
-      → length (filter p (from 1 (suc e))) ≡ length (filter p (from 1 e)) + cond (p (suc e)) 1 0
-  more p e =
-      let last : suc e - 1 ≡ e = omega arith in
-      ap length (filter-next p (suc e) (omega arith))
-      ∙ rw (last, length-append (filter p (from 1 e)) (filter p (suc e ∷ [])))
-      (decided (p (suc e)) (λ y. rw y) (λ n. rw n))
 
   -- What one event does to the depth and to both counts, n of acquires and m of releases.
   balanced : (e t l n m : ℕ) → depth σ e t l + m ≡ n → Moved σ e t l
@@ -124,4 +114,7 @@ module _ (σ : Trace) (ok : WellFormed σ) where
   depth-count (suc e) t l =
       let ih = depth-count e t l in
       let step = balanced (suc e) t l _ _ ih (depth-moved σ (suc e) t l) in
-      omega (arith, step, more (leaving σ t l) e, more (entering σ t l) e)
+      let last : suc e - 1 ≡ e = omega arith in
+      let left = rw last at (filter-counts (leaving σ t l) (suc e) (omega arith)) in
+      let entered = rw last at (filter-counts (entering σ t l) (suc e) (omega arith)) in
+      omega (arith, step, left, entered)

@@ -35,7 +35,7 @@ module _ (σ : Trace) (ok : WellFormed σ) (e : ℕ) (inside : (1 ≤ e) × (e �
   own-opens : (a : ℕ) × Section σ (task σ e) (object σ e) e a
   own-opens =
       depth-opens σ e (task σ e) (object σ e)
-      (holds-iff σ e (task σ e) (object σ e) .0 (release-held σ ok e (inside .0) (inside .1) t))
+      (holds-iff σ e (task σ e) (object σ e) .0 (release-held σ ok e t))
 
   own : ℕ
   own = own-opens .0

@@ -1,17 +1,13 @@
 -- How tables tell inner acquires and releases, which change no holder and have no match, from outer ones: by
 -- a kind of their own, or by a mark among the matches. Laws are in proofs/EventKinds and proofs/Marks.
 use Prim.Native.Nat.{ℕ}
-use mathlib.Core.Bool.{Bool, cond, not, _&&_, _||_}
-use Rattle.model.specs.Trace.{Trace, at, enters, leaves, isAcquire, isRelease}
+use mathlib.Core.Bool.{cond}
+use Rattle.model.specs.Trace.{Trace, at, isInner}
 use Rattle.model.specs.Relations.{matching}
 
 -- The kind of an inner acquire or release, which is no operation's number.
 abbrev pub innerKind : ℕ
 innerKind = 4
-
--- An inner acquire or release.
-unfoldable pub isInner : Trace → ℕ → Bool
-isInner σ e = (enters σ e && not (isAcquire σ e)) || (leaves σ e && not (isRelease σ e))
 
 -- An event's kind: its operation, unless it is an inner one.
 unfoldable pub kind : Trace → ℕ → ℕ

@@ -9,8 +9,8 @@ use lib.Dec.{eqb}
 use lib.ListN.{length, getD}
 use Rattle.model.specs.Lists.{lastBefore, firstFrom, hasBit}
 use Rattle.model.specs.Trace.{Trace, tasks, locks, sameTask, sameObject, depth, isAcquire, isRelease}
+use Rattle.model.specs.Trace.{isInner}
 use Rattle.model.specs.Relations.{acquireOf, holds}
-use Rattle.laws.specs.EventKinds.{isInner}
 
 -- Lock l has task h - 1 at depth d as its holder, or none where h and d are 0 (02: the record kept for each
 -- lock is holder and depth).
@@ -42,7 +42,7 @@ pub record LockDepth (σ : Trace) (e l d : ℕ) : Type 0 where
   pub at : Holder σ e l holder d
 
 -- For each lock what is kept for its depth.
-pub record LockDepths (σ : Trace) (e : ℕ) (table : List ℕ) : Type 0 where
+pub record KeptDepths (σ : Trace) (e : ℕ) (table : List ℕ) : Type 0 where
   pub long : length table ≡ locks
   pub at : (l : ℕ) → l < locks → (h : ℕ) × Kept σ e l h (getD table l 0)
 

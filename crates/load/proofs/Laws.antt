@@ -15,7 +15,7 @@ use Rattle.model.specs.Trace.{Trace, at, object}
 use Rattle.model.specs.Calls.Load.{isHeldAfter, percent}
 use Rattle.laws.specs.Walked.{LockDepth}
 use Rattle.laws.proofs.Tests.{decided}
-use Rattle.laws.proofs.Filters.{filter-next}
+use Rattle.laws.proofs.Filters.{filter-counts}
 use Rattle.laws.proofs.Faults.{enters-is, leaves-is, accesses-is}
 use Rattle.laws.proofs.WellFormed.{WellFormed}
 use Rattle.laws.proofs.LockDepth.{lockDepth-access, lockDepth-apart, lockDepth-enter, lockDepth-leave}
@@ -64,13 +64,6 @@ module _ {σ : Trace} {e op l d : ℕ} (u : Coming σ e op l d) where
 
 -- ---- counting
 
--- One event more counts where the lock is held after it.
-pub count-more : (p : ℕ → Bool) (e : ℕ) → 1 ≤ e
-    → length (filter p (from 1 e)) ≡ length (filter p (from 1 (e - 1))) + cond (p e) 1 0
-count-more p e h =
-    rw (filter-next p e h, length-append (filter p (from 1 (e - 1))) (filter p (e ∷ [])))
-    (decided (p e) (λ y. rw y) (λ y. rw y))
-
 -- Some task holds the lock after event e where its depth is then above 0.
 pub held-after : (σ : Trace) (e l d : ℕ) → LockDepth σ (e + 1) l d → isHeldAfter σ l e ≡ ltb 0 d
 unfolding isHeldAfter
@@ -80,19 +73,19 @@ held-after σ e l d z = lockDepth-any σ (rw (add-one e) at z)
 abbrev pub heldBefore : Trace → ℕ → ℕ → ℕ
 heldBefore σ l e = length (filter (isHeldAfter σ l) (from 1 (e - 1)))
 
-module _ (σ : Trace) (e l h : ℕ) (i : 1 ≤ e) (z : LockDepth σ (e + 1) l h) where
-  step : heldBefore σ l (e + 1) ≡ heldBefore σ l e + cond (ltb 0 h) 1 0
+module _ (σ : Trace) (e l d : ℕ) (i : 1 ≤ e) (z : LockDepth σ (e + 1) l d) where
+  step : heldBefore σ l (e + 1) ≡ heldBefore σ l e + cond (ltb 0 d) 1 0
   step =
       let q : e + 1 - 1 ≡ e = omega arith in
-      rw (q, count-more (isHeldAfter σ l) e i, held-after σ e l h z)
+      rw (q, filter-counts (isHeldAfter σ l) e i, held-after σ e l d z)
 
-  -- An event after which there is a holder counts,
-  pub counted : (n : ℕ) → n ≡ heldBefore σ l e → h ≢ 0 → n + 1 ≡ heldBefore σ l (e + 1)
-  counted n q d = omega (arith, rw (lt-ltb 0 h (omega arith)) at step)
+  -- An event after which the depth is above 0 counts,
+  pub counted : (n : ℕ) → n ≡ heldBefore σ l e → d ≢ 0 → n + 1 ≡ heldBefore σ l (e + 1)
+  counted n q deep = omega (arith, rw (lt-ltb 0 d (omega arith)) at step)
 
   -- and another does not.
-  pub uncounted : (n : ℕ) → n ≡ heldBefore σ l e → h ≡ 0 → n ≡ heldBefore σ l (e + 1)
-  uncounted n q d = omega (arith, rw (le-ltb 0 h (omega arith)) at step)
+  pub uncounted : (n : ℕ) → n ≡ heldBefore σ l e → d ≡ 0 → n ≡ heldBefore σ l (e + 1)
+  uncounted n q free = omega (arith, rw (le-ltb 0 d (omega arith)) at step)
 
 -- ---- rounding
 

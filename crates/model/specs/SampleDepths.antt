@@ -1,6 +1,6 @@
--- Locks that their holder takes again: the depth, questions 5 and 6, the relations and the load. One record
--- of facts and one proof, by computation. Row J, which is such a recording, is in Rows; closure, schedules
--- and patterns are in SampleInner.
+-- Locks that their holder takes again: the depth, questions 5 and 6, and the relations. One record of facts
+-- and one proof, by computation. Row J, which is such a recording, is in Rows; closure, schedules and patterns
+-- are in SampleInner, the load in SamplePercents.
 use Prim.Native.Nat.{ℕ}
 use mathlib.Core.Path.{_≡_, refl}
 use mathlib.Core.List.{List, [], _∷_, _++_}
@@ -11,7 +11,6 @@ use Rattle.model.specs.Recording.{trace}
 use Rattle.model.specs.Calls.Questions.{outcome}
 use Rattle.model.specs.Calls.Check.{check}
 use Rattle.model.specs.Calls.Relations.{relations, relationsRefusal}
-use Rattle.model.specs.Calls.Load.{load}
 use Rattle.model.specs.Opened.{opened}
 use Rattle.model.specs.SampleAnswers.{related}
 use Rattle.model.specs.Recordings.{recording, by, acq, rel}
@@ -61,8 +60,6 @@ pub record SampleDepths : Type 0 where
       ≡ related 1 1 5 0 5
   -- Two locks, of which the one that was taken again first is given back first.
   pub crossed : relations crossing 6 ≡ related 3 2 2 0 5
-  -- Load: held after events 1, 2, 3 and 5 of 5.
-  pub load-deep : load reentered 0 ≡ record { refusal = 0; event = 0; percent = 80 }
 
 -- Every sample of depths holds, by computation.
 pub sampleDepths : SampleDepths
@@ -90,5 +87,4 @@ sampleDepths = record {
   unreleased = refl;
   second-section = refl;
   crossed = refl;
-  load-deep = refl;
 }

@@ -8,6 +8,7 @@ use Rattle.model.specs.Calls.Load.{percent, load}
 use Rattle.model.specs.Opened.{opened}
 use Rattle.model.specs.Recordings.{recording, by, acq, rel, wr}
 use Rattle.model.specs.SampleAnswers.{keeping}
+use Rattle.model.specs.SampleDepths.{reentered}
 
 -- Lock 0 is held after three of eight events.
 abbrev pub three-of-eight : List ℕ
@@ -19,6 +20,8 @@ pub record SamplePercents : Type 0 where
   pub load-empty : load (0x10 ∷ 0x00 ∷ []) 0 ≡ record { refusal = 0; event = 0; percent = 0 }
   pub load-kept : load (0x10 ∷ 0x01 ∷ 0x80 ∷ 0x3F ∷ []) 63 ≡ record { refusal = 0; event = 0; percent = 100 }
   pub load-nearest : load keeping 0 ≡ record { refusal = 0; event = 0; percent = 43 }
+  -- A lock that its holder takes again, held after events 1, 2, 3 and 5 of 5.
+  pub load-deep : load reentered 0 ≡ record { refusal = 0; event = 0; percent = 80 }
   -- 37.5, of an odd whole per cent.
   pub load-half : load three-of-eight 0 ≡ record { refusal = 0; event = 0; percent = 38 }
   -- Halves go to the even per cent: 0.5, 1.5, 12.5, 99.5.
@@ -44,6 +47,7 @@ samplePercents = record {
   load-empty = refl;
   load-kept = refl;
   load-nearest = refl;
+  load-deep = refl;
   load-half = refl;
   half-0 = refl;
   half-1 = refl;

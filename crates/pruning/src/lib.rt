@@ -1,5 +1,6 @@
-// What the search for deadlocks passes over: events that hold no lock, by links to the next one that does,
-// blocks of events in which none holds the last lock, and chains that cannot lead back to the first event.
+// What the search for deadlocks passes over: events that are no outer acquire at which a lock is held, by
+// links to the next one that is, blocks of events in which none holds the last lock, and chains that cannot
+// lead back to the first event.
 ghost use Prim.Native.Nat.{ℕ, _+_, _-_, _*_, _<_, _≤_};
 ghost use mathlib.Core.Path.{_≡_};
 ghost use mathlib.Core.Bool.{cond};

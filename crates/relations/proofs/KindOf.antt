@@ -13,14 +13,14 @@ use borrow.Author.Tests.{eq-eqb, ne-eqb, eqb-true}
 use Rattle.model.specs.Lists.{hasBit}
 use Rattle.model.specs.Trace.{Trace, tasks, locks, at, task, object, enters, leaves}
 use Rattle.model.specs.Relations.{held}
-use Rattle.laws.specs.Walked.{Kept, LockDepths}
+use Rattle.laws.specs.Walked.{Kept, KeptDepths}
 use Rattle.laws.proofs.Tests.{or-l, or-r, equal?}
 use Rattle.laws.proofs.Faults.{enters-is, leaves-is, accesses-is}
 use Rattle.laws.specs.EventKinds.{innerKind, kind}
 use Rattle.laws.proofs.EventKinds.{kind-access, kind-enter, kind-leave}
 use Rattle.laws.proofs.Relations.{held-bit}
 use Rattle.laws.proofs.Kept.{kept-fits, kept-holds, kept-free, kept-first, kept-own, kept-again, kept-freed}
-use Rattle.laws.proofs.Kept.{kept-lowered, lockDepths-keep, lockDepths-set, lockDepths-access}
+use Rattle.laws.proofs.Kept.{kept-lowered, keptDepths-keep, keptDepths-set, keptDepths-access}
 use Rattle.laws.proofs.WellFormed.{WellFormed, enter-isFree, leave-held, operation-lt}
 
 -- Event e of a well-formed trace, with its operation, before which this is kept of the locks' depths.
@@ -28,11 +28,11 @@ pub record Coming (σ : Trace) (e op : ℕ) (depths : List ℕ) : Type 0 where
   pub sound : WellFormed σ
   pub event : (1 ≤ e) × (e ≤ length σ)
   pub op-is : (op < 4) × (op ≡ at σ e .op)
-  pub depths-are : LockDepths σ e depths
+  pub depths-are : KeptDepths σ e depths
 
 -- What finding the kind k answers, and the depths that it leaves.
 abbrev Kind : Trace → ℕ → ℕ → List ℕ → Type 0
-Kind σ e k depths = (at σ e .op < 4) × (k ≡ kind σ e) × LockDepths σ (e + 1) depths
+Kind σ e k depths = (at σ e .op < 4) × (k ≡ kind σ e) × KeptDepths σ (e + 1) depths
 
 module _ {σ : Trace} {e op : ℕ} {depths : List ℕ} (u : Coming σ e op depths) where
   is-op : op ≡ at σ e .op
@@ -47,7 +47,7 @@ module _ {σ : Trace} {e op : ℕ} {depths : List ℕ} (u : Coming σ e op depth
     omega (arith, u .op-is),
     kind-access σ e is-op h,
     let (no-enter, no-leave) = accesses-is σ e is-op h in
-        rw (add-one e) (lockDepths-access no-enter no-leave (u .depths-are)),
+        rw (add-one e) (keptDepths-access no-enter no-leave (u .depths-are)),
   )
 
   entered : op ≡ 2 → T (enters σ e)
@@ -71,11 +71,11 @@ module _ {σ : Trace} {e op : ℕ} {depths : List ℕ} (u : Coming σ e op depth
     pub depth-fits : 2 ≤ op → getD depths o 0 ≤ e
     depth-fits h = kept-fits (u .event .0) (kept-at h .1)
 
-    unmoved : (h : ℕ) → Kept σ (suc e) (object σ e) h (getD depths o 0) → LockDepths σ (e + 1) depths
-    unmoved h z = rw (add-one e) (lockDepths-keep (u .depths-are) (rw q at z))
+    unmoved : (h : ℕ) → Kept σ (suc e) (object σ e) h (getD depths o 0) → KeptDepths σ (e + 1) depths
+    unmoved h z = rw (add-one e) (keptDepths-keep (u .depths-are) (rw q at z))
 
-    moved : 2 ≤ op → (h x : ℕ) → Kept σ (suc e) (object σ e) h x → LockDepths σ (e + 1) (set depths o x)
-    moved i h x z = rw (add-one e, q) (lockDepths-set (u .depths-are) (rw q at (lock-small i)) z)
+    moved : 2 ≤ op → (h x : ℕ) → Kept σ (suc e) (object σ e) h x → KeptDepths σ (e + 1) (set depths o x)
+    moved i h x z = rw (add-one e, q) (keptDepths-set (u .depths-are) (rw q at (lock-small i)) z)
 
     -- ---- acquires
 

@@ -69,9 +69,9 @@ module _ {σ : Trace} {e k : ℕ} (u : OfKind σ e k) where
       pub release-noted : k ≡ 3 → {l : ℕ} → (l < variables) × (l ≡ object σ e)
           → Locksets σ (e + 1) (set locksets t (bitXor (getD locksets t 0) (1 * 2 ^ l % 2 ^ 64)))
       release-noted a is-object =
-          let held = release-held σ (u .sound) e (u .event .0) (u .event .1) (rw (release a) tt) in
+          let held = release-held σ (u .sound) e (rw (release a) tt) in
           rw (add-one e, is-task .1, is-object .1)
-          (locksets-release σ e locksets z (omega arith) (no-acquire (omega arith)) (release a)
+          (locksets-release σ e locksets z (omega arith) (release a)
           (lock-bound (omega arith) (omega arith)) (is-true _ held))
 
       -- and other events change nothing.

@@ -19,7 +19,7 @@ use Rattle.laws.proofs.Locksets.{locksets-start}
 use Rattle.laws.proofs.Relations.{predecessor-below, writer-below, held-lt}
 use Rattle.laws.proofs.Marks.{marked-match, marked-le}
 use Rattle.laws.proofs.Matches.{matches-start, matches-end}
-use Rattle.laws.proofs.Kept.{lockDepths-start}
+use Rattle.laws.proofs.Kept.{keptDepths-start}
 use Rattle.relations.specs.Tables.{operation, Tables, Long, Noted}
 
 -- Before event 1 the tables are clear.
@@ -43,7 +43,7 @@ noted-start σ operations owners objects holding predecessors writers matches lo
   matching-filled = matches-start σ matches;
   latest-event = latest-start (λ f. true) (task σ) tasks;
   latest-write = latest-start (isWrite σ) (object σ) variables;
-  depth = lockDepths-start;
+  depth = keptDepths-start;
   lockset = locksets-start σ;
   latest-acquire = latest-start (isAcquire σ) (object σ) locks;
 }
@@ -101,14 +101,10 @@ module _ {σ : Trace} {operations tasks objects holding predecessors writers mat
   pub locks-fit : ones (getD holding e 0) ≤ 64
   locks-fit = rw (z .held-at e h k) (ones-le 64 (held σ e) (held-lt σ e))
 
-  -- and so does the number of each related event.
-  pub matching-fits : getD matches e 0 ≤ length σ
-  matching-fits = rw (z .matching-at e h k) (marked-le σ e k)
-
-  -- The writer's.
+  -- and so do the number of the writer
   pub writer-fits : getD writers e 0 ≤ length σ
   writer-fits = rw (z .writer-at e h k) (omega (arith, writer-below σ e))
 
-  -- The predecessor's.
+  -- and that of the predecessor.
   pub predecessor-fits : getD predecessors e 0 ≤ length σ
   predecessor-fits = rw (z .predecessor-at e h k) (omega (arith, predecessor-below σ e))

@@ -8,7 +8,7 @@ use lib.ListN.{length, getD}
 use Rattle.model.specs.Trace.{Trace, tasks, locks, variables, at, task, object, isWrite, isAcquire}
 use Rattle.model.specs.Relations.{predecessor, writer, held}
 use Rattle.laws.specs.Sizes.{tableLength}
-use Rattle.laws.specs.Walked.{Filled, LatestEvents, LockDepths, Locksets, Matches}
+use Rattle.laws.specs.Walked.{Filled, LatestEvents, KeptDepths, Locksets, Matches}
 use Rattle.laws.specs.EventKinds.{marked}
 
 -- The operation of an event, as a relation.
@@ -58,6 +58,6 @@ pub record Noted (σ : Trace) (e : ℕ) (operations tasks objects holding predec
   pub matching-filled : Matches σ e matches
   pub latest-event : LatestEvents (λ f. true) (task σ) e latest
   pub latest-write : LatestEvents (isWrite σ) (object σ) e writes
-  pub depth : LockDepths σ e depths
+  pub depth : KeptDepths σ e depths
   pub lockset : Locksets σ e locksets
   pub latest-acquire : LatestEvents (isAcquire σ) (object σ) e acquires

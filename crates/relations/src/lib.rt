@@ -12,7 +12,7 @@ ghost use Rattle.model.specs.Calls.Check.{checkEvents};
 ghost use Rattle.model.specs.Calls.Relations.{relations};
 ghost use Rattle.laws.specs.Sizes.{recordsLength, tableLength};
 ghost use Rattle.laws.specs.Answered.{refusedRelations, eventRelations};
-ghost use Rattle.laws.specs.Walked.{Filled, LatestEvents, LockDepths, Locksets, Matches};
+ghost use Rattle.laws.specs.Walked.{Filled, LatestEvents, KeptDepths, Locksets, Matches};
 ghost use Rattle.laws.specs.EventKinds.{kind};
 ghost use Rattle.relations.specs.Tables.{operation, Tables, Noted};
 
@@ -96,10 +96,10 @@ fn held_locks(records: &[u8], e: usize, locksets: &[u64]) -> u64
 fn kind_of(records: &[u8], e: usize, mask: u64, depths: &mut [u16]) -> u8
     requires { ⌜ (1 ≤ e) × (2 * e ≤ length (now records)) × (e < tableLength)
         × (checkEvents (decodeAll (now records)) .refusal ≡ 0) × (mask ≡ held (decodeAll (now records)) e)
-        × LockDepths (decodeAll (now records)) e (now depths) ⌝ }
+        × KeptDepths (decodeAll (now records)) e (now depths) ⌝ }
     ensures { λ r. ⌜ (at (decodeAll (now (records .entry))) e .op < 4)
         × (r ≡ kind (decodeAll (now (records .entry))) e)
-        × LockDepths (decodeAll (now (records .entry))) (e + 1) (now (depths .exit)) ⌝ }
+        × KeptDepths (decodeAll (now (records .entry))) (e + 1) (now (depths .exit)) ⌝ }
 {
     let op = recording::operation(records, e);
     if op < 2 {
@@ -189,14 +189,14 @@ fn note_locks(
         × (length (now acquires) ≡ locks)
         × Filled (held (decodeAll (now records))) e (now holding)
         × Matches (decodeAll (now records)) e (now matches)
-        × LockDepths (decodeAll (now records)) e (now depths)
+        × KeptDepths (decodeAll (now records)) e (now depths)
         × Locksets (decodeAll (now records)) e (now locksets)
         × LatestEvents (isAcquire (decodeAll (now records))) (object (decodeAll (now records))) e
         (now acquires) ⌝ }
     ensures { λ r. ⌜ (length (now (acquires .exit)) ≡ locks)
         × Filled (held (decodeAll (now (records .entry)))) (e + 1) (now (holding .exit))
         × Matches (decodeAll (now (records .entry))) (e + 1) (now (matches .exit))
-        × LockDepths (decodeAll (now (records .entry))) (e + 1) (now (depths .exit))
+        × KeptDepths (decodeAll (now (records .entry))) (e + 1) (now (depths .exit))
         × Locksets (decodeAll (now (records .entry))) (e + 1) (now (locksets .exit))
         × LatestEvents (isAcquire (decodeAll (now (records .entry))))
         (object (decodeAll (now (records .entry))))

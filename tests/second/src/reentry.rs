@@ -3,7 +3,7 @@
 use crate::closure::set_has;
 use crate::locks::{outer_events, Locks};
 use crate::protocol::{bytes, entries_of, number, Answer};
-use crate::recording::{numbers_from, Event, Operation, LOCKS};
+use crate::recording::{numbers_from, Event, Operation, LOCKS, TASKS};
 
 /// Counts of what occurred.
 #[derive(Default)]
@@ -11,6 +11,8 @@ pub struct Reentry {
     /// Accepted recordings with an inner acquire.
     recordings: u64,
     greatest_depth: usize,
+    /// Those in which a task, with two locks taken again, releases the one that it acquired earlier.
+    crossed: u64,
     /// Relations asked for of inner events.
     relations: u64,
     /// Loads of a lock that is taken again.
@@ -69,7 +71,9 @@ impl Reentry {
     /// Counts a request about an accepted recording with an inner acquire.
     fn count_accepted(&mut self, words: &[&str], answer: &Answer, nesting: &Nesting) {
         self.recordings += 1;
-        self.greatest_depth = self.greatest_depth.max(History::of(&nesting.events).greatest);
+        let history = History::of(&nesting.events);
+        self.greatest_depth = self.greatest_depth.max(history.greatest);
+        self.crossed += u64::from(history.crossed);
         match (answer.refusal.number, words) {
             (0, _) => self.count_answer(words, answer, nesting),
             (10, [_, _, pattern, ..]) => {
@@ -114,13 +118,15 @@ impl Reentry {
         let [other_schedules, valid_schedules] = self.schedules;
         format!(
             "locks taken again: accepted recordings with an inner acquire {}, greatest depth {}, \
-             inner events asked for {}, loads {}, closures adding inner events {}, deadlocks listed {}, \
+             two locks taken again and released across {}, inner events asked for {}, loads {}, \
+             closures adding inner events {}, deadlocks listed {}, \
              witnesses with inner events {}, valid schedules with inner events {}, \
              other schedules with inner events {}\n\
              refusals at locks taken again: 5 at depth 2 or more {}, 5 at depth 1 after an inner release {}, \
              6 beyond the depth {}, 10 for an inner acquire {}",
             self.recordings,
             self.greatest_depth,
+            self.crossed,
             self.relations,
             self.loads,
             self.closures,
@@ -172,6 +178,10 @@ struct History {
     greatest_since_free: [usize; LOCKS],
     /// The greatest depth of any lock.
     greatest: usize,
+    /// For each task the locks that it has acquired and not released, as often, the latest last.
+    acquired: [Vec<usize>; TASKS],
+    /// Whether a task, with two locks taken again, released the one that it had acquired earlier.
+    crossed: bool,
 }
 
 impl History {
@@ -181,17 +191,35 @@ impl History {
             latest_holder: [0; LOCKS],
             greatest_since_free: [0; LOCKS],
             greatest: 0,
+            acquired: Default::default(),
+            crossed: false,
         };
         for &event in events {
+            if event.operation == Operation::Release {
+                history.release(event.task, event.object);
+            }
             history.locks.pass(event);
             if event.operation == Operation::Acquire {
-                history.acquired(event.task, event.object);
+                history.acquire(event.task, event.object);
             }
         }
         history
     }
 
-    fn acquired(&mut self, task: usize, lock: usize) {
+    /// Notes a release before its lock's record changes.
+    fn release(&mut self, task: usize, lock: usize) {
+        let acquired = &mut self.acquired[task];
+        let Some(at) = acquired.iter().rposition(|&other| other == lock) else {
+            return;
+        };
+        acquired.remove(at);
+        let later = &acquired[at..];
+        self.crossed |= self.locks.depth(lock) > 1 && later.iter().any(|&other| self.locks.depth(other) > 1);
+    }
+
+    /// Notes an acquire after its lock's record has changed.
+    fn acquire(&mut self, task: usize, lock: usize) {
+        self.acquired[task].push(lock);
         let depth = self.locks.depth(lock);
         let greatest = &mut self.greatest_since_free[lock];
         *greatest = if depth == 1 { 1 } else { depth.max(*greatest) };
@@ -257,6 +285,17 @@ mod tests {
         assert_eq!((reentry.relations, reentry.loads, reentry.closures), (2, 1, 1));
         assert_eq!((reentry.deadlocks, reentry.witnesses, reentry.schedules), (2, 1, [1, 1]));
         assert_eq!(reentry.refused_patterns, 2);
+    }
+
+    #[test]
+    fn crossed_releases_are_counted() {
+        let reentry = counted(&[
+            ("check", "T0 a0 a1 a0 a1 r0 r1 r1 r0", ""),
+            ("check", "T0 a0 a1 a0 a1 r1 r0 r1 r0", ""),
+            ("check", "T0 a0 a0 a1 r0 r1 r0", ""),
+            ("check", "T0 a0 a0, T1 a1 a1, T0 r0, T1 r1", ""),
+        ]);
+        assert_eq!((reentry.recordings, reentry.crossed), (4, 1));
     }
 
     #[test]

@@ -1,4 +1,4 @@
--- `relations::unmarked` meets its contract. Assumes nothing.
+-- `relations::unmarked` meets its contract: it compares the number with the event's own. Assumes nothing.
 use borrow.Author.Tests.{eq-eqb, ne-eqb}
 use Rattle.relations.proofs.unmarked.Statement.{statement}
 use Rattle.relations.proofs.unmarked.Tie as tie
