@@ -1,6 +1,7 @@
 /* Every call of two states of the project in one run: before FOLDER FOLDER RECORDING... loads the calls of
  * both (timed.so and hidzvoma.so in each folder, the state before and the one after), calls them in turn, and
- * prints for each call how long it takes after / before over the recordings: geometric mean, least and most.
+ * prints for each call how long it takes after / before over the recordings: geometric mean, least and most;
+ * and for each recording the geometric mean of its listings with sizes 2, 4 and 16.
  * A recording that one of the states refuses is left out. A call takes the same arguments in both states,
  * which nothing checks: one that changes them needs a line of its own. */
 #include <dlfcn.h>
@@ -16,8 +17,12 @@
 enum { LARGEST = 8192, ROOM = 65536, ROUNDS = 15, MOST_CALLS = 5000 };
 
 /* What the calls are lent: a recording, the middle entry of its listing of pairs, if it has any, and a
- * schedule for that; and bytes to write to. */
+ * schedule for that; and bytes to write to. Beside it what was measured of its listings: the sum of the
+ * ratios' logarithms, and how many they are. */
 struct lent {
+    const char *name;
+    double listing_logs;
+    int listings;
     uint8_t recording[LARGEST], pattern[4], schedule[LARGEST], out[ROOM];
     size_t length, events, schedule_length;
     bool listed;
@@ -75,20 +80,21 @@ static uint64_t on_schedule(void *f, struct lent *l) {
 static const struct call {
     const char *name, *library, *symbol;
     uint64_t (*run)(void *, struct lent *);
-    bool pattern;
+    /* It takes a pattern; it counts as a listing of its recording, which size 0, being 16, does not again. */
+    bool pattern, listing;
 } calls[] = {
-    {"check", "timed", "timed_check", on_recording, false},
-    {"check and tables", "timed", "timed_tables", on_recording, false},
-    {"relations", "timed", "timed_relations", on_event, false},
-    {"load", "timed", "timed_load", on_lock, false},
-    {"close", "timed", "timed_close", on_set, false},
-    {"list, size 2", "hidzvoma", "hidzvoma_list", list_pairs, false},
-    {"list, size 4", "hidzvoma", "hidzvoma_list", list_to_four, false},
-    {"list, size 16", "hidzvoma", "hidzvoma_list", list_to_sixteen, false},
-    {"list, size 0", "hidzvoma", "hidzvoma_list", list_by_default, false},
-    {"verdict", "hidzvoma", "hidzvoma_verdict", on_pattern, true},
-    {"witness", "timed", "timed_witness", to_witness, true},
-    {"schedule", "timed", "timed_schedule", on_schedule, true},
+    {"check", "timed", "timed_check", on_recording, false, false},
+    {"check and tables", "timed", "timed_tables", on_recording, false, false},
+    {"relations", "timed", "timed_relations", on_event, false, false},
+    {"load", "timed", "timed_load", on_lock, false, false},
+    {"close", "timed", "timed_close", on_set, false, false},
+    {"list, size 2", "hidzvoma", "hidzvoma_list", list_pairs, false, true},
+    {"list, size 4", "hidzvoma", "hidzvoma_list", list_to_four, false, true},
+    {"list, size 16", "hidzvoma", "hidzvoma_list", list_to_sixteen, false, true},
+    {"list, size 0", "hidzvoma", "hidzvoma_list", list_by_default, false, false},
+    {"verdict", "hidzvoma", "hidzvoma_verdict", on_pattern, true, false},
+    {"witness", "timed", "timed_witness", to_witness, true, false},
+    {"schedule", "timed", "timed_schedule", on_schedule, true, false},
 };
 enum { CALLS = sizeof calls / sizeof *calls };
 
@@ -166,9 +172,23 @@ static void measure(const struct call *c, void *const states[2], struct lent *le
         least = fmin(least, r);
         most = fmax(most, r);
         measured++;
+        if (c->listing) {
+            lent[i].listing_logs += log(r);
+            lent[i].listings++;
+        }
     }
     printf("| %s | %.2f (%.2f to %.2f) | %d | %d |\n", c->name, exp(logs / measured), least, most, measured,
            differ);
+}
+
+/* Prints for each recording how long its listings take after / before. */
+static void print_listings(const struct lent *lent, int recordings) {
+    printf("\n| Recording | listing, after / before: geometric mean of sizes 2, 4 and 16 |\n|---|---|\n");
+    for (int i = 0; i < recordings; i++) {
+        const char *slash = strrchr(lent[i].name, '/');
+        const char *name = slash == NULL ? lent[i].name : slash + 1;
+        if (lent[i].listings > 0) printf("| %s | %.3f |\n", name, exp(lent[i].listing_logs / lent[i].listings));
+    }
 }
 
 int main(int count, char **words) {
@@ -181,6 +201,7 @@ int main(int count, char **words) {
     if (list_call == NULL || witness_call == NULL) fail("no call for patterns and schedules in", words[2]);
     int accepted = 0;
     for (int i = 0; i < recordings; i++) {
+        lent[accepted].name = words[i + 3];
         read_recording(&lent[accepted], words[i + 3], list_call, witness_call);
         if (refused(words[1], &lent[accepted]) || refused(words[2], &lent[accepted]))
             fprintf(stderr, "before: %s is refused in one state and left out\n", words[i + 3]);
@@ -198,6 +219,7 @@ int main(int count, char **words) {
         else
             measure(c, states, lent, accepted);
     }
+    print_listings(lent, accepted);
     free(lent);
     return 0;
 }

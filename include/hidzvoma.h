@@ -9,9 +9,10 @@
  *
  * A task may acquire a lock again that it holds. Its depth in the lock is then one more, each release takes
  * one off, and it holds the lock until depth 0. Only the acquire from depth 0 and the release to depth 0, the
- * outer ones, count as acquire and release; an inner one is an event of its task like any other. So 5 is not
- * given for a lock that the task itself holds, and a pattern names outer acquires only, also where a lock is
- * taken again behind them.
+ * outer ones, count as acquire and release; an inner one is an event of its task like any other. So a pattern
+ * names outer acquires only, also where a lock is taken again behind them: put a guard there, and lend no
+ * pattern with an inner one (10). 5 is not given for a lock that the task itself holds: a caller that wants
+ * tasks to take each lock once looks for that itself.
  *
  * A deadlock pattern is a list of 2 to 16 outer acquires by different tasks of different locks. The lock of
  * each is held at the next one, the last one's at the first, and no lock is held at two of them; the smallest
