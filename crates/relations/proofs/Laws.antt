@@ -1,5 +1,5 @@
--- What noting one event does to the tables of predecessors, writers and held locks, with its operation, task
--- and object as they were unpacked. What it does to those of locks is in Locks. Assumes nothing.
+-- What noting one event does to the tables of predecessors and writers, with its operation, task and object as
+-- they were unpacked. What it does to those of locks is proved in the crate sections. Assumes nothing.
 use Prim.Native.Nat.{ℕ, _+_, _-_, _<_}
 use mathlib.Core.Path.{_≡_, sym, _∙_}
 use mathlib.Core.Logic.{_≢_}
@@ -10,11 +10,10 @@ use native.Mathlib.Omega.{arith}
 use lib.ListN.{length, getD, set}
 use borrow.Author.Tests.{eq-eqb, ne-eqb}
 use Rattle.model.specs.Trace.{Trace, tasks, variables, at, task, object, isWrite}
-use Rattle.model.specs.Relations.{predecessor, writer, held}
-use Rattle.laws.specs.Walked.{Filled, LatestEvents, Locksets}
+use Rattle.model.specs.Relations.{predecessor, writer}
+use Rattle.laws.specs.Walked.{Filled, LatestEvents}
 use Rattle.laws.proofs.Relations.{writer-none}
 use Rattle.laws.proofs.LatestEvents.{latest-set, latest-keep, latest-writer, latest-predecessor, filled-set}
-use Rattle.laws.proofs.Locksets.{locksets-held}
 use Rattle.laws.proofs.Faults.{isRead-op, isWrite-op}
 
 -- ---- the predecessor
@@ -65,10 +64,3 @@ module _ (σ : Trace) (e op v : ℕ) (is-op : (op < 4) × (op ≡ at σ e .op))
   no-write-noted d =
       rw (add-one e) (latest-keep (isWrite σ) (object σ) e writes z
       (isWrite-op σ e (is-op .1) ∙ ne-eqb op 1 d))
-
--- ---- held locks
-
--- The mask of the event's task is that of its held locks.
-pub held-mask : (σ : Trace) (e t : ℕ) → (t < tasks) × (t ≡ task σ e) → (locksets : List ℕ)
-    → Locksets σ e locksets → getD locksets t 0 ≡ held σ e
-held-mask σ e t is-task locksets z = rw (is-task .1) (locksets-held σ e locksets z (omega arith))

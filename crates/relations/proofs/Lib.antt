@@ -1,5 +1,3 @@
 -- Laws of noting one event in the tables; each function's proof is in a folder of its own.
 pub mod Laws
-pub mod KindOf
-pub mod Locks
 pub mod Tabled

@@ -17,7 +17,7 @@ use Rattle.laws.proofs.Trace.{decodeAll-length}
 use Rattle.laws.proofs.LatestEvents.{latest-start, filled-start}
 use Rattle.laws.proofs.Locksets.{locksets-start}
 use Rattle.laws.proofs.Relations.{predecessor-below, writer-below, held-lt}
-use Rattle.laws.proofs.Marks.{marked-match, marked-le}
+use Rattle.laws.proofs.Marks.{marked-match}
 use Rattle.laws.proofs.Matches.{matches-start, matches-end}
 use Rattle.laws.proofs.Kept.{keptDepths-start}
 use Rattle.relations.specs.Tables.{operation, Tables, Long, Noted}

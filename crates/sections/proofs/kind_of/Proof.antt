@@ -1,4 +1,4 @@
--- `relations::kind_of` meets its contract: the held locks decide on an acquire, and the depth of its lock on
+-- `sections::kind_of` meets its contract: the held locks decide on an acquire, and the depth of its lock on
 -- a release. Assumes nothing.
 use Prim.Native.Nat.{_<_}
 use mathlib.Core.Path.{sym, _∙_}
@@ -10,10 +10,10 @@ use Rattle.model.specs.Recording.{decodeAll}
 use Rattle.laws.proofs.Tests.{not-true, not-false}
 use Rattle.laws.proofs.Trace.{record-event}
 use Rattle.laws.proofs.Questions.{events-sound}
-use Rattle.relations.proofs.KindOf.{Coming, access-kind, lock-small, depth-fits, enter-outer}
-use Rattle.relations.proofs.KindOf.{enter-inner, leave-deep, leave-outer, leave-inner}
-use Rattle.relations.proofs.kind_of.Statement.{statement}
-use Rattle.relations.proofs.kind_of.Tie as tie
+use Rattle.sections.proofs.KindOf.{Coming, access-kind, lock-small, depth-fits, enter-outer}
+use Rattle.sections.proofs.KindOf.{enter-inner, leave-deep, leave-outer, leave-inner}
+use Rattle.sections.proofs.kind_of.Statement.{statement}
+use Rattle.sections.proofs.kind_of.Tie as tie
 
 -- The entry, from where the operation is unpacked.
 abbrev start : tie.After-operation → tie.Start

@@ -1,7 +1,7 @@
--- `relations::unmarked` meets its contract: it compares the number with the event's own. Assumes nothing.
+-- `sections::unmarked` meets its contract: it compares the number with the event's own. Assumes nothing.
 use borrow.Author.Tests.{eq-eqb, ne-eqb}
-use Rattle.relations.proofs.unmarked.Statement.{statement}
-use Rattle.relations.proofs.unmarked.Tie as tie
+use Rattle.sections.proofs.unmarked.Statement.{statement}
+use Rattle.sections.proofs.unmarked.Tie as tie
 
 returns : tie.Need-returns
 returns c = rw (eq-eqb (c .before .args .noted) (c .before .args .e) (c .if1 .taken))

@@ -17,12 +17,17 @@ use Rattle.model.specs.Relations.{held}
 use Rattle.laws.specs.Walked.{LatestEvents, Locksets, Matches}
 use Rattle.laws.proofs.Tests.{or-l, or-r, is-true, equal?}
 use Rattle.laws.proofs.LatestEvents.{latest-set, latest-keep}
-use Rattle.laws.proofs.Locksets.{locksets-acquire, locksets-release, locksets-access}
+use Rattle.laws.proofs.Locksets.{locksets-held, locksets-acquire, locksets-release, locksets-access}
 use Rattle.laws.specs.EventKinds.{innerKind, kind}
 use Rattle.laws.proofs.EventKinds.{isAcquire-kind, isRelease-kind, isInner-kind}
 use Rattle.laws.proofs.WellFormed.{WellFormed, lock-lt, release-held}
 use Rattle.laws.proofs.OpenAcquires.{opened-acquire}
 use Rattle.laws.proofs.Matches.{matches-keep, matches-release}
+
+-- The mask of the event's task is that of its held locks.
+pub held-mask : (σ : Trace) (e t : ℕ) → (t < tasks) × (t ≡ task σ e) → (locksets : List ℕ)
+    → Locksets σ e locksets → getD locksets t 0 ≡ held σ e
+held-mask σ e t is-task locksets z = rw (is-task .1) (locksets-held σ e locksets z (omega arith))
 
 -- Event e of a well-formed trace, with its kind.
 pub record OfKind (σ : Trace) (e k : ℕ) : Type 0 where

@@ -1,10 +1,10 @@
--- `relations::held_locks` meets its contract: the mask of the event's task is that of its held locks.
+-- `sections::held_locks` meets its contract: the mask of the event's task is that of its held locks.
 -- Assumes nothing.
 use borrow.Author.Needs.{needs}
 use Rattle.model.specs.Recording.{decodeAll}
-use Rattle.relations.proofs.Laws.{held-mask}
-use Rattle.relations.proofs.held_locks.Statement.{statement}
-use Rattle.relations.proofs.held_locks.Tie as tie
+use Rattle.sections.proofs.Locks.{held-mask}
+use Rattle.sections.proofs.held_locks.Statement.{statement}
+use Rattle.sections.proofs.held_locks.Tie as tie
 
 task-requires : tie.Need-task-requires
 task-requires c κs = search needs

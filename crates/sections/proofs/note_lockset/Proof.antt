@@ -1,13 +1,13 @@
--- `relations::note_lockset` meets its contract: an outer acquire sets its lock's bit, and an outer release
+-- `sections::note_lockset` meets its contract: an outer acquire sets its lock's bit, and an outer release
 -- clears it. Assumes nothing.
 use native.Mathlib.Omega.{arith}
 use borrow.Author.Needs.{needs}
 use Rattle.model.specs.Recording.{decodeAll}
 use Rattle.laws.proofs.Trace.{record-event}
 use Rattle.laws.proofs.Questions.{events-sound}
-use Rattle.relations.proofs.Locks.{OfKind, lock-bound, acquire-noted, release-noted, access-noted}
-use Rattle.relations.proofs.note_lockset.Statement.{statement}
-use Rattle.relations.proofs.note_lockset.Tie as tie
+use Rattle.sections.proofs.Locks.{OfKind, lock-bound, acquire-noted, release-noted, access-noted}
+use Rattle.sections.proofs.note_lockset.Statement.{statement}
+use Rattle.sections.proofs.note_lockset.Tie as tie
 
 -- The event with its kind.
 known : (s : tie.Start) → OfKind (decodeAll (s .args .records .now)) (s .args .e) (s .args .k)

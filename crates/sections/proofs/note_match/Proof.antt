@@ -1,4 +1,4 @@
--- `relations::note_match` meets its contract: an outer release and the latest outer acquire of its lock are
+-- `sections::note_match` meets its contract: an outer release and the latest outer acquire of its lock are
 -- each other's match. Assumes nothing.
 use Prim.Native.Nat.{_<_}
 use native.Mathlib.Omega.{arith}
@@ -7,10 +7,10 @@ use lib.ListN.{getD}
 use Rattle.model.specs.Recording.{decodeAll}
 use Rattle.laws.proofs.Trace.{record-event}
 use Rattle.laws.proofs.Questions.{events-sound}
-use Rattle.relations.proofs.Locks.{OfKind, lock-bound, opened-bound, release-matched, acquire-latest}
-use Rattle.relations.proofs.Locks.{no-acquire-latest, inner-marked, no-release-matched}
-use Rattle.relations.proofs.note_match.Statement.{statement}
-use Rattle.relations.proofs.note_match.Tie as tie
+use Rattle.sections.proofs.Locks.{OfKind, lock-bound, opened-bound, release-matched, acquire-latest}
+use Rattle.sections.proofs.Locks.{no-acquire-latest, inner-marked, no-release-matched}
+use Rattle.sections.proofs.note_match.Statement.{statement}
+use Rattle.sections.proofs.note_match.Tie as tie
 
 -- The event with its kind.
 known : (s : tie.Start) → OfKind (decodeAll (s .args .records .now)) (s .args .e) (s .args .k)
