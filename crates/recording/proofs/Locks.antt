@@ -10,7 +10,7 @@ use native.Mathlib.Omega.{arith}
 use lib.Dec.{T, eqb}
 use lib.ListN.{getD, set}
 use borrow.Author.Tests.{eq-eqb, ne-eqb}
-use Rattle.model.specs.Trace.{Trace, tasks, locks, variables, task, object, enters, leaves}
+use Rattle.model.specs.Trace.{Trace, tasks, locks, task, object, enters, leaves}
 use Rattle.model.specs.Relations.{holds}
 use Rattle.model.specs.WellFormed.{isFree}
 use Rattle.laws.specs.Walked.{Kept, Holders}
@@ -26,20 +26,22 @@ abbrev Left : Trace → ℕ → ℕ → List ℕ → List ℕ → Type 0
 Left σ e r holders depths =
     (r ≡ cond (holds σ e (task σ e) (object σ e)) 0 6) × (r ≡ 0 → Holders σ (e + 1) holders depths)
 
--- An acquire or release of a lock, with its task and its lock as they were unpacked.
+-- An acquire or release with its task and its lock as they were unpacked.
 pub record Locked (σ : Trace) (e t o : ℕ) (holders depths : List ℕ) : Type 0 where
   pub task-is : (t < tasks) × (t ≡ task σ e)
-  pub object-is : (o < variables) × (o ≡ object σ e)
-  pub lock-is : object σ e < locks
+  pub object-is : (o < locks) × (o ≡ object σ e)
   pub held : Holders σ e holders depths
 
 module _ {σ : Trace} {e t o : ℕ} {holders depths : List ℕ} (u : Locked σ e t o holders depths) where
   small : task σ e < tasks
   small = omega (arith, u .task-is)
 
+  lock-is : object σ e < locks
+  lock-is = omega (arith, u .object-is)
+
   -- What the tables have for the event's lock.
   at-lock : Kept σ e (object σ e) (getD holders o 0) (getD depths o 0)
-  at-lock = rw (u .object-is .1) (u .held .at (object σ e) (u .lock-is))
+  at-lock = rw (u .object-is .1) (u .held .at (object σ e) lock-is)
 
   -- What is kept for a depth is at most the event's number.
   pub depth-fits : 1 ≤ e → getD depths o 0 ≤ e
@@ -53,7 +55,7 @@ module _ {σ : Trace} {e t o : ℕ} {holders depths : List ℕ} (u : Locked σ e
       → Holders σ (e + 1) (set holders o h) depths
   with-holder h z =
       rw (add-one e, u .object-is .1)
-      (holders-holder (u .held) (u .lock-is) (rw (u .object-is .1) at z))
+      (holders-holder (u .held) lock-is (rw (u .object-is .1) at z))
 
   -- or, where its task holds it, another depth.
   with-depth : (x : ℕ) → getD holders o 0 ≡ t + 1 → Kept σ (suc e) (object σ e) (suc (task σ e)) x
@@ -61,7 +63,7 @@ module _ {σ : Trace} {e t o : ℕ} {holders depths : List ℕ} (u : Locked σ e
   with-depth x n z =
       let same : suc (task σ e) ≡ getD holders (object σ e) 0 =
       rw (← (u .task-is .1), ← (u .object-is .1), n, add-one t) in
-      rw (add-one e, u .object-is .1) (holders-depth (u .held) (u .lock-is) (rw same at z))
+      rw (add-one e, u .object-is .1) (holders-depth (u .held) lock-is (rw same at z))
 
   -- ---- acquires
 

@@ -68,19 +68,19 @@ pub fn in_mask(mask: u64, l: u64) -> bool
     (mask >> l) & 1 == 1
 }
 
-// Puts question 5 to acquire e, with the holder of each lock (its task plus 1, or 0) and how deep it is in
-// it, or 1 without a holder: 5, or 0, and then its task is the holder, one deeper. A depth is at most e, so
-// it fits.
-fn enter(records: &[u8], e: usize, holders: &mut [u8], depths: &mut [u16]) -> u64
-    requires { ⌜ (1 ≤ e) × (2 * e ≤ length (now records)) × (e < tableLength)
-        × T (enters (decodeAll (now records)) e) × (object (decodeAll (now records)) e < locks)
+// Puts question 5 to acquire e of lock l by task t, with the holder of each lock (its task plus 1, or 0) and how
+// deep it is in it, or 1 without a holder: 5, or 0, and then the task is the holder, one deeper. A depth is at
+// most e, so it fits. The records are those that say what e is; what they have of it is lent unpacked.
+fn enter(records: &[u8], e: usize, t: u8, l: usize, holders: &mut [u8], depths: &mut [u16]) -> u64
+    requires { ⌜ (1 ≤ e) × (e < tableLength) × T (enters (decodeAll (now records)) e)
+        × (t < tasks) × (t ≡ task (decodeAll (now records)) e)
+        × (l < locks) × (l ≡ object (decodeAll (now records)) e)
         × Holders (decodeAll (now records)) e (now holders) (now depths) ⌝ }
     ensures { λ r. ⌜ (r ≡ cond (isFree (decodeAll (now (records .entry))) e) 0 5)
         × (r ≡ 0 → Holders (decodeAll (now (records .entry))) (e + 1) (now (holders .exit))
         (now (depths .exit))) ⌝ }
 {
-    let own = task(records, e) + 1;
-    let l = object(records, e) as usize;
+    let own = t + 1;
     if holders[l] == 0 {
         holders[l] = own;
         return 0;
@@ -92,19 +92,19 @@ fn enter(records: &[u8], e: usize, holders: &mut [u8], depths: &mut [u16]) -> u6
     0
 }
 
-// Puts question 6 to release e, with the same tables: 6, or 0, and then its task is one less deep, and at
-// depth 0 the holder no more.
-fn leave(records: &[u8], e: usize, holders: &mut [u8], depths: &mut [u16]) -> u64
-    requires { ⌜ (1 ≤ e) × (2 * e ≤ length (now records))
-        × T (leaves (decodeAll (now records)) e) × (object (decodeAll (now records)) e < locks)
+// Puts question 6 to release e of lock l by task t, with the same tables: 6, or 0, and then the task is one
+// less deep, and at depth 0 the holder no more.
+fn leave(records: &[u8], e: usize, t: u8, l: usize, holders: &mut [u8], depths: &mut [u16]) -> u64
+    requires { ⌜ T (leaves (decodeAll (now records)) e)
+        × (t < tasks) × (t ≡ task (decodeAll (now records)) e)
+        × (l < locks) × (l ≡ object (decodeAll (now records)) e)
         × Holders (decodeAll (now records)) e (now holders) (now depths) ⌝ }
     ensures { λ r. ⌜ (r ≡ cond (holds (decodeAll (now (records .entry))) e
         (task (decodeAll (now (records .entry))) e) (object (decodeAll (now (records .entry))) e)) 0 6)
         × (r ≡ 0 → Holders (decodeAll (now (records .entry))) (e + 1) (now (holders .exit))
         (now (depths .exit))) ⌝ }
 {
-    let l = object(records, e) as usize;
-    if holders[l] != task(records, e) + 1 {
+    if holders[l] != t + 1 {
         return 6;
     }
     if depths[l] == 1 {
@@ -139,10 +139,11 @@ fn ask(records: &[u8], e: usize, holders: &mut [u8], depths: &mut [u16], writes:
     if 64 <= at {
         return 4;
     }
+    let t = task(records, e);
     if op == 2 {
-        return enter(records, e, holders, depths);
+        return enter(records, e, t, at, holders, depths);
     }
-    leave(records, e, holders, depths)
+    leave(records, e, t, at, holders, depths)
 }
 
 // Puts questions 4 to 7 event by event: the earliest event with a "no" decides.

@@ -3,7 +3,7 @@ use Prim.Native.Nat.{_<_}
 use mathlib.Core.Path.{_≡_}
 use native.Mathlib.Omega.{arith}
 use borrow.Author.Needs.{needs}
-use Rattle.model.specs.Trace.{locks, object}
+use Rattle.model.specs.Trace.{tasks, locks, task, object}
 use Rattle.model.specs.Recording.{decodeAll}
 use Rattle.laws.proofs.Faults.{enters-is, leaves-is}
 use Rattle.recording.proofs.Laws.{Coming, read-refused, read-passed, written, no-lock, acquired}
@@ -27,13 +27,13 @@ unpacked c = record {
 }
 
 -- The last of four operations.
-release : (c : tie.Else5) → c .before .before .before .before .before .operation .result ≡ 3
+release : (c : tie.Else5) → c .before .before .before .before .before .before .operation .result ≡ 3
 release c =
     omega (
       arith,
-      c .before .before .before .before .before .operation .ensures,
-      c .before .before .before .if1 .left,
-      c .before .before .if3 .left,
+      c .before .before .before .before .before .before .operation .ensures,
+      c .before .before .before .before .if1 .left,
+      c .before .before .before .if3 .left,
       c .if5 .left,
     )
 
@@ -81,19 +81,26 @@ returns-4 c =
     no-lock (unpacked (c .before .before .before)) (c .before .before .if1 .left) (c .before .if3 .left)
     (c .if4 .taken)
 
+task-requires : tie.Need-task-requires
+task-requires c κs = search needs
+
+-- What the unpacked task and lock are, from where the task is unpacked.
+locked : (c : tie.After-task) → let u = c .before .before .before .before in
+    let σ = decodeAll (start u .args .records .now) in let e = start u .args .e in
+    (c .task .result < tasks) × (c .task .result ≡ task σ e)
+    × (u .object .result < locks) × (u .object .result ≡ object σ e)
+locked c =
+    let is-task = c .task .ensures in
+    let is-object = c .before .before .before .before .object .ensures in
+    (is-task .0, is-task .1, omega (arith, c .before .if4 .left), is-object .1)
+
 enter-requires : tie.Need-enter-requires
 enter-requires c κs =
-    let u = c .before .before .before .before .before .before in
+    let u = c .before .before .before .before .before .before .before in
     let s = start u in
-    let small : object (decodeAll (s .args .records .now)) (s .args .e) < locks =
-    omega (arith, c .before .before .before .if4 .left, u .object .ensures) in (
-      s .pre .0,
-      s .pre .1,
-      s .pre .2,
-      enters-is _ _ (unpacked u .op-is .1) (c .before .before .if5 .taken),
-      small,
-      s .pre .3 .holder,
-    )
+    let entered = enters-is _ _ (unpacked u .op-is .1) (c .before .before .if5 .taken) in
+    let (small, is-task, known, is-lock) = locked (c .before .before .before) in
+    (s .pre .0, s .pre .2, entered, small, is-task, known, is-lock, s .pre .3 .holder)
 
 same-length-2 : tie.Need-same-length-2
 same-length-2 c = search needs
@@ -104,17 +111,15 @@ same-length-3 c = search needs
 returns-5 : tie.Need-returns-5
 returns-5 c =
     let k = c .before .before .before .before .before .before .before in
-    acquired (unpacked (k .before .before .before .before)) (k .if5 .taken) (k .before .if4 .left) _ _ _
+    acquired (unpacked (k .before .before .before .before .before)) (k .if5 .taken) (k .before .before .if4 .left) _ _ _
     (c .before .before .before .before .enter .ensures)
 
 leave-requires : tie.Need-leave-requires
 leave-requires c κs =
-    let u = c .before .before .before .before .before .before in
-    let s = start u in
-    let small : object (decodeAll (s .args .records .now)) (s .args .e) < locks =
-    omega (arith, c .before .before .before .if4 .left, u .object .ensures) in
+    let u = c .before .before .before .before .before .before .before in
     let left = leaves-is _ _ (unpacked u .op-is .1) (release (c .before .before)) in
-    (s .pre .0, s .pre .1, left, small, s .pre .3 .holder)
+    let (small, is-task, known, is-lock) = locked (c .before .before .before) in
+    (left, small, is-task, known, is-lock, start u .pre .3 .holder)
 
 same-length-4 : tie.Need-same-length-4
 same-length-4 c = search needs
@@ -125,7 +130,7 @@ same-length-5 c = search needs
 returns-6 : tie.Need-returns-6
 returns-6 c =
     let k = c .before .before .before .before .before .before .before in
-    released (unpacked (k .before .before .before .before)) (release k) (k .before .if4 .left) _ _ _
+    released (unpacked (k .before .before .before .before .before)) (release k) (k .before .before .if4 .left) _ _ _
     (c .before .before .before .before .leave .ensures)
 
 pub ask-spec : {M : Type 1} → statement M
@@ -145,6 +150,7 @@ ask-spec =
     same-length
     returns-3
     returns-4
+    task-requires
     enter-requires
     same-length-2
     same-length-3

@@ -6,32 +6,14 @@ use Rattle.recording.proofs.Locks.{Locked, depth-fits, enter-refused, e
 use Rattle.recording.proofs.enter.Statement.{statement}
 use Rattle.recording.proofs.enter.Tie as tie
 
--- The entry, from where the event is unpacked.
-abbrev start : tie.After-object → tie.Start
-start c = c .before .before .before .before .before
-
 -- The event's task and lock.
-unpacked : (c : tie.After-object)
-    → Locked (decodeAll (start c .args .records .now)) (start c .args .e) (c .before .task .result)
-    (c .object .result) (start c .args .holders .now) (start c .args .depths .now)
-unpacked c = record {
-  task-is = c .before .task .ensures;
-  object-is = c .object .ensures;
-  lock-is = start c .pre .4;
-  held = start c .pre .5;
-}
-
-task-requires : tie.Need-task-requires
-task-requires c κs = search needs
+unpacked : (s : tie.Start)
+    → Locked (decodeAll (s .args .records .now)) (s .args .e) (s .args .t) (s .args .l) (s .args .holders .now)
+    (s .args .depths .now)
+unpacked s = record { task-is = (s .pre .3, s .pre .4); object-is = (s .pre .5, s .pre .6); held = s .pre .7 }
 
 add-own : tie.Need-add-own
 add-own c = search needs
-
-object-requires : tie.Need-object-requires
-object-requires c κs = search needs
-
-cast-l : tie.Need-cast-l
-cast-l c = search needs
 
 slice-read-if1 : tie.Need-slice-read-if1
 slice-read-if1 c = search needs
@@ -44,8 +26,7 @@ same-length c = search needs
 
 returns : tie.Need-returns
 returns c =
-    let u = c .before .before in
-    enter-first (unpacked u) (start u .pre .3) (c .if1 .taken)
+    let s = c .before .before in enter-first (unpacked s) (s .pre .2) (c .if1 .taken)
 
 slice-read-if2 : tie.Need-slice-read-if2
 slice-read-if2 c = search needs
@@ -63,8 +44,8 @@ slice-read-depths c = search needs
 
 add-depths : tie.Need-add-depths
 add-depths c =
-    let u = c .before .before .before .before .before in
-    omega (arith, depth-fits (unpacked u) (start u .pre .0), start u .pre .2)
+    let s = c .before .before .before .before .before in
+    omega (arith, depth-fits (unpacked s) (s .pre .0), s .pre .1)
 
 mul-depths-2 : tie.Need-mul-depths-2
 mul-depths-2 c = search needs
@@ -77,17 +58,14 @@ same-length-2 c = search needs
 
 returns-3 : tie.Need-returns-3
 returns-3 c =
-    let u = c .before .before .before .before .before in
-    enter-again (unpacked u) (start u .pre .3) (c .before .if2 .left)
+    let s = c .before .before .before .before .before in
+    enter-again (unpacked s) (s .pre .2) (c .before .if2 .left)
 
 pub enter-spec : {M : Type 1} → statement M
 enter-spec =
     tie.close
     (tie.spec
-    task-requires
     add-own
-    object-requires
-    cast-l
     slice-read-if1
     slice-write-holders
     same-length

@@ -5,39 +5,21 @@ use Rattle.recording.proofs.Locks.{Locked, leave-refused, leave-deep, l
 use Rattle.recording.proofs.leave.Statement.{statement}
 use Rattle.recording.proofs.leave.Tie as tie
 
--- The entry, from where the event is unpacked.
-abbrev start : tie.After-task → tie.Start
-start c = c .before .before .before .before .before .before
-
 -- The event's task and lock.
-unpacked : (c : tie.After-task)
-    → Locked (decodeAll (start c .args .records .now)) (start c .args .e) (c .task .result)
-    (c .before .before .object .result) (start c .args .holders .now) (start c .args .depths .now)
-unpacked c = record {
-  task-is = c .task .ensures;
-  object-is = c .before .before .object .ensures;
-  lock-is = start c .pre .3;
-  held = start c .pre .4;
-}
-
-object-requires : tie.Need-object-requires
-object-requires c κs = search needs
-
-cast-l : tie.Need-cast-l
-cast-l c = search needs
+unpacked : (s : tie.Start)
+    → Locked (decodeAll (s .args .records .now)) (s .args .e) (s .args .t) (s .args .l) (s .args .holders .now)
+    (s .args .depths .now)
+unpacked s = record { task-is = (s .pre .1, s .pre .2); object-is = (s .pre .3, s .pre .4); held = s .pre .5 }
 
 slice-read-if1 : tie.Need-slice-read-if1
 slice-read-if1 c = search needs
-
-task-requires : tie.Need-task-requires
-task-requires c κs = search needs
 
 add-if1 : tie.Need-add-if1
 add-if1 c = search needs
 
 returns : tie.Need-returns
 returns c =
-    leave-refused (unpacked (c .before)) (c .if1 .taken)
+    leave-refused (unpacked (c .before .before)) (c .if1 .taken)
 
 mul-if2 : tie.Need-mul-if2
 mul-if2 c = search needs
@@ -53,8 +35,8 @@ same-length c = search needs
 
 returns-2 : tie.Need-returns-2
 returns-2 c =
-    let u = c .before .before .before in
-    leave-freed (unpacked u) (c .before .before .if1 .left) (start u .pre .2) (c .if2 .taken)
+    let s = c .before .before .before .before in
+    leave-freed (unpacked s) (c .before .before .if1 .left) (s .pre .0) (c .if2 .taken)
 
 mul-depths : tie.Need-mul-depths
 mul-depths c = search needs
@@ -64,7 +46,7 @@ slice-read-depths c = search needs
 
 sub-depths : tie.Need-sub-depths
 sub-depths c =
-    leave-deep (unpacked (c .before .before .before .before)) (c .before .before .before .if1 .left)
+    leave-deep (unpacked (c .before .before .before .before .before)) (c .before .before .before .if1 .left)
 
 mul-depths-2 : tie.Need-mul-depths-2
 mul-depths-2 c = search needs
@@ -77,17 +59,14 @@ same-length-2 c = search needs
 
 returns-3 : tie.Need-returns-3
 returns-3 c =
-    let u = c .before .before .before .before in
-    leave-kept (unpacked u) (c .before .before .before .if1 .left) (start u .pre .2) (c .before .if2 .left)
+    let s = c .before .before .before .before .before in
+    leave-kept (unpacked s) (c .before .before .before .if1 .left) (s .pre .0) (c .before .if2 .left)
 
 pub leave-spec : {M : Type 1} → statement M
 leave-spec =
     tie.close
     (tie.spec
-    object-requires
-    cast-l
     slice-read-if1
-    task-requires
     add-if1
     returns
     mul-if2
