@@ -29,8 +29,8 @@ pub record Needed (σ : Trace) (predecessors writers matches : List ℕ) : Type 
 unfoldable pub wantedWriter : Trace → List ℕ → ℕ → List ℕ
 wantedWriter σ want f = cond (eqb (writer σ f) 0) want (raised want (task σ (writer σ f)) (writer σ f))
 
--- The wanted events with what the table has as the match of the earlier one of `top` and f, unless `top` is 0.
--- Of two outer acquires that is the match.
+-- The wanted events with what the table has as the match of the earlier one of `top` and f, unless `top` is
+-- 0. Of two outer acquires that is the match.
 unfoldable pub wantedEarlier : Trace → List ℕ → ℕ → ℕ → List ℕ
 wantedEarlier σ want top f =
     cond (eqb top 0) want (raised want (task σ (min top f)) (marked σ (min top f)))

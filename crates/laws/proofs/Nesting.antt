@@ -17,7 +17,8 @@ use Rattle.laws.proofs.Filters.{filter-counts}
 use Rattle.laws.proofs.Trace.{sameTask-iff, sameObject-iff, acquire-event}
 use Rattle.laws.proofs.Relations.{releases, matching-earliest}
 use Rattle.laws.proofs.Depth.{Section, Moved, stays, deeper, back, holds-iff, depth-start, depth-moved}
-use Rattle.laws.proofs.Depth.{depth-opens, depth-falls, depth-enter, depth-leave, own-depth, enters-leaves}
+use Rattle.laws.proofs.Depth.{depth-opens, depth-falls, depth-enter, depth-leave, own-depth}
+use Rattle.laws.proofs.Depth.{enters-leaves}
 use Rattle.laws.proofs.Depth.{isAcquire-iff, isRelease-iff}
 use Rattle.laws.proofs.WellFormed.{WellFormed, acquire-free, leave-held}
 

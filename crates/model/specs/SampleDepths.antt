@@ -1,6 +1,6 @@
 -- Locks that their holder takes again: the depth, questions 5 and 6, and the relations. One record of facts
--- and one proof, by computation. Row J, which is such a recording, is in Rows; closure, schedules and patterns
--- are in SampleInner, the load in SamplePercents.
+-- and one proof, by computation. Row J, which is such a recording, is in Rows; closure, schedules and
+-- patterns are in SampleInner, the load in SamplePercents.
 use Prim.Native.Nat.{ℕ}
 use mathlib.Core.Path.{_≡_, refl}
 use mathlib.Core.List.{List, [], _∷_, _++_}

@@ -68,9 +68,9 @@ pub fn in_mask(mask: u64, l: u64) -> bool
     (mask >> l) & 1 == 1
 }
 
-// Puts question 5 to acquire e of lock l by task t, with the holder of each lock (its task plus 1, or 0) and how
-// deep it is in it, or 1 without a holder: 5, or 0, and then the task is the holder, one deeper. A depth is at
-// most e, so it fits. The records are those that say what e is; what they have of it is lent unpacked.
+// Puts question 5 to acquire e of lock l by task t, with the holder of each lock (its task plus 1, or 0) and
+// how deep it is in it, or 1 without a holder: 5, or 0, and then the task is the holder, one deeper. A depth
+// is at most e, so it fits. What the records have of e is lent unpacked; they only say what e is.
 fn enter(records: &[u8], e: usize, t: u8, l: usize, holders: &mut [u8], depths: &mut [u16]) -> u64
     requires { ⌜ (1 ≤ e) × (e < tableLength) × T (enters (decodeAll (now records)) e)
         × (t < tasks) × (t ≡ task (decodeAll (now records)) e)

@@ -1,5 +1,5 @@
--- What noting one event does to the tables of predecessors and writers, with its operation, task and object as
--- they were unpacked. What it does to those of locks is proved in the crate sections. Assumes nothing.
+-- What noting one event does to the tables of predecessors and writers, with its operation, task and object
+-- as they were unpacked. What it does to those of locks is proved in the crate sections. Assumes nothing.
 use Prim.Native.Nat.{ℕ, _+_, _-_, _<_}
 use mathlib.Core.Path.{_≡_, sym, _∙_}
 use mathlib.Core.Logic.{_≢_}

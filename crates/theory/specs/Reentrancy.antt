@@ -28,8 +28,8 @@ HeldByAnother σ e = (t : ℕ) × (t < tasks) × (t ≢ task σ e) × T (holds �
 
 -- The request's clauses for a trace.
 pub record Reentrancy (σ : Trace) : Type 0 where
-  -- Holder and depth are all there is to keep for a lock: no two tasks hold it, and the depth of a task is its
-  -- acquires of the lock less its releases.
+  -- Holder and depth are all there is to keep for a lock: no two tasks hold it, and the depth of a task is
+  -- its acquires of the lock less its releases.
   pub one-holder : (e t u l : ℕ) → T (holds σ e t l) → T (holds σ e u l) → t ≡ u
   pub depth-is : (e t l : ℕ)
       → depth σ (suc e) t l + count (λ f. operates σ t l f && leaves σ f) e

@@ -111,7 +111,8 @@ same-length-3 c = search needs
 returns-5 : tie.Need-returns-5
 returns-5 c =
     let k = c .before .before .before .before .before .before .before in
-    acquired (unpacked (k .before .before .before .before .before)) (k .if5 .taken) (k .before .before .if4 .left) _ _ _
+    let u = k .before .before .before .before .before in
+    acquired (unpacked u) (k .if5 .taken) (k .before .before .if4 .left) _ _ _
     (c .before .before .before .before .enter .ensures)
 
 leave-requires : tie.Need-leave-requires
@@ -130,7 +131,8 @@ same-length-5 c = search needs
 returns-6 : tie.Need-returns-6
 returns-6 c =
     let k = c .before .before .before .before .before .before .before in
-    released (unpacked (k .before .before .before .before .before)) (release k) (k .before .before .if4 .left) _ _ _
+    let u = k .before .before .before .before .before in
+    released (unpacked u) (release k) (k .before .before .if4 .left) _ _ _
     (c .before .before .before .before .leave .ensures)
 
 pub ask-spec : {M : Type 1} → statement M

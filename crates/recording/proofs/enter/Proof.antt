@@ -8,8 +8,8 @@ use Rattle.recording.proofs.enter.Tie as tie
 
 -- The event's task and lock.
 unpacked : (s : tie.Start)
-    → Locked (decodeAll (s .args .records .now)) (s .args .e) (s .args .t) (s .args .l) (s .args .holders .now)
-    (s .args .depths .now)
+    → Locked (decodeAll (s .args .records .now)) (s .args .e) (s .args .t) (s .args .l)
+    (s .args .holders .now) (s .args .depths .now)
 unpacked s = record { task-is = (s .pre .3, s .pre .4); object-is = (s .pre .5, s .pre .6); held = s .pre .7 }
 
 add-own : tie.Need-add-own

@@ -7,8 +7,8 @@ use Rattle.recording.proofs.leave.Tie as tie
 
 -- The event's task and lock.
 unpacked : (s : tie.Start)
-    → Locked (decodeAll (s .args .records .now)) (s .args .e) (s .args .t) (s .args .l) (s .args .holders .now)
-    (s .args .depths .now)
+    → Locked (decodeAll (s .args .records .now)) (s .args .e) (s .args .t) (s .args .l)
+    (s .args .holders .now) (s .args .depths .now)
 unpacked s = record { task-is = (s .pre .1, s .pre .2); object-is = (s .pre .3, s .pre .4); held = s .pre .5 }
 
 slice-read-if1 : tie.Need-slice-read-if1
