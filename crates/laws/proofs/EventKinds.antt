@@ -4,11 +4,11 @@ use mathlib.Core.Path.{_≡_, refl, sym, _∙_}
 use mathlib.Core.Logic.{⊎-elim, _≢_}
 use mathlib.Core.Bool.{true, false, cond, not, _&&_, _||_}
 use native.Mathlib.Omega.{arith}
-use lib.Dec.{T, eqb}
+use lib.Dec.{T, eqb, eqb→eq}
 use borrow.Author.Tests.{ne-eqb}
-use Rattle.model.specs.Trace.{Trace, at, enters, leaves, ownDepth, isAcquire, isRelease, isInner}
+use Rattle.model.specs.Trace.{Trace, at, isRead, enters, leaves, ownDepth, isAcquire, isRelease, isInner}
 use Rattle.laws.specs.EventKinds.{innerKind, kind}
-use Rattle.laws.proofs.Tests.{decided, equal?}
+use Rattle.laws.proofs.Tests.{decided, equal?, or-elim, and-l}
 
 -- The kind of an operation at a depth.
 abbrev kindOf : ℕ → ℕ → ℕ
@@ -54,10 +54,19 @@ module _ (σ : Trace) (e : ℕ) where
   unfolding kind
   inner-acquire y = isAcquire-kind σ e refl ∙ rw y
 
-  -- and no outer release.
+  -- no outer release,
   pub inner-release : isInner σ e ≡ true → isRelease σ e ≡ false
   unfolding kind
   inner-release y = isRelease-kind σ e refl ∙ rw y
+
+  -- nor a read.
+  pub inner-read : isInner σ e ≡ true → isRead σ e ≡ false
+  unfolding isInner isRead enters leaves
+  inner-read y =
+      ne-eqb (at σ e .op) 0 (λ z.
+      or-elim (enters σ e && not (isAcquire σ e)) (leaves σ e && not (isRelease σ e))
+      (λ t. omega (arith, eqb→eq (at σ e .op) 2 (and-l (enters σ e) _ t)))
+      (λ t. omega (arith, eqb→eq (at σ e .op) 3 (and-l (leaves σ e) _ t))) (rw y tt))
 
   -- So an outer acquire is no inner one,
   pub acquire-inner : T (isAcquire σ e) → isInner σ e ≡ false

@@ -2,7 +2,7 @@
 use Prim.Native.Nat.{ℕ, _-_, _≤_, _<_}
 use mathlib.Core.Path.{_≡_, _∙_}
 use mathlib.Core.Logic.{⊎-elim, _≢_}
-use mathlib.Core.Bool.{false, cond, _&&_}
+use mathlib.Core.Bool.{Bool, false, cond, not, _&&_, _||_}
 use native.Mathlib.Omega.{arith}
 use lib.ListN.{length}
 use lib.Dec.{T, eqb, ltb, ltb→lt, lt→ltb}
@@ -13,7 +13,7 @@ use Rattle.model.specs.Relations.{holds, writer}
 use Rattle.model.specs.WellFormed.{isFree, fault, firstFault}
 use Rattle.model.specs.Calls.Questions.{outcome}
 use Rattle.model.specs.Calls.Check.{checkEvents}
-use Rattle.laws.proofs.Tests.{decided, equal?}
+use Rattle.laws.proofs.Tests.{decided, equal?, and-iff, is-true, is-false, not-false}
 use Rattle.laws.proofs.Searches.{Earliest, firstFrom-earliest}
 
 -- ---- one event, by its operation
@@ -92,6 +92,31 @@ module _ (σ : Trace) (e : ℕ) {op : ℕ} (q : op ≡ at σ e .op) where
   pub fault-read : op ≡ 0 → fault σ e ≡ cond (eqb (writer σ e) 0) 7 0
   unfolding fault
   fault-read a = rw (enters-op, leaves-op, isRead-op, a)
+
+module _ (σ : Trace) (e : ℕ) where
+  -- Only an acquire has the fault 5, and only of a lock that is not free for it.
+  pub fault-five : fault σ e ≡ 5 → T (enters σ e) × (object σ e < locks) × (isFree σ e ≡ false)
+  unfolding fault
+  fault-five q =
+      decided ((enters σ e || leaves σ e) && not (ltb (object σ e) locks))
+      (λ y. absurd (omega (arith, rw y at q)))
+      (λ n. decided (enters σ e && not (isFree σ e))
+      (λ y.
+      let (a, taken) = and-iff (enters σ e) (not (isFree σ e)) .0 (rw y tt) in
+      (a, inside a n, is-false (isFree σ e) taken))
+      (λ m. absurd (later (leaves σ e && not (holds σ e (task σ e) (object σ e)))
+      (isRead σ e && eqb (writer σ e) 0) (rw (n, m) at q))))
+    where
+      inside : T (enters σ e) → ((enters σ e || leaves σ e) && not (ltb (object σ e) locks)) ≡ false
+          → object σ e < locks
+      inside a n =
+          let y = not-false (ltb (object σ e) locks) (rw (is-true (enters σ e) a) at n) in
+          ltb→lt (object σ e) locks (rw y tt)
+
+      later : (b c : Bool) → _≡_ {A = ℕ} (cond b 6 (cond c 7 0)) 5 → ⊥
+      later b c r =
+          decided b (λ y. absurd (omega (arith, rw y at r)))
+          (λ n. decided c (λ y. absurd (omega (arith, rw (n, y) at r))) (λ m. omega (arith, rw (n, m) at r)))
 
 -- ---- the event that decides
 

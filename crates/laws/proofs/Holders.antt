@@ -3,19 +3,20 @@
 use Prim.Native.Nat.{ℕ, zero, suc, _-_, _≤_, _<_}
 use mathlib.Core.Path.{_≡_, refl, sym, _∙_}
 use mathlib.Core.Logic.{⊎-elim, _≢_}
-use mathlib.Core.Bool.{Bool, true, false, cond, not, _||_}
+use mathlib.Core.Bool.{true, false, cond, _||_}
 use native.Mathlib.Omega.{arith}
 use lib.Dec.{T, eqb, eqb→eq, eqb-refl, eqb·zero-suc, eqb·suc-zero, eqb·suc-suc, ltb, ltb→lt, lt→ltb}
 use borrow.Author.Tests.{eq-eqb, ne-eqb, eqb-true, eqb-false, lt-ltb}
-use Rattle.model.specs.Lists.{all, any, from}
+use Rattle.model.specs.Lists.{any, from}
 use Rattle.model.specs.Trace.{Trace, tasks, task, object, enters, leaves, depth, ownDepth}
 use Rattle.model.specs.Relations.{holds}
 use Rattle.model.specs.WellFormed.{isFree}
 use Rattle.laws.specs.Walked.{Holder}
 use Rattle.laws.proofs.Tests.{decided, equal?, T-ext, or-r, or-elim, is-true}
-use Rattle.laws.proofs.Lists.{all-iff, any-iff, from-iff}
+use Rattle.laws.proofs.Lists.{any-iff, from-iff}
 use Rattle.laws.proofs.Depth.{depth-start, depth-enter, depth-leave, depth-other}
 use Rattle.laws.proofs.Depth.{depth-le}
+use Rattle.laws.proofs.Holds.{isFree-iff}
 
 module _ (σ : Trace) where
   -- ---- one lock
@@ -52,31 +53,22 @@ module _ (σ : Trace) where
   -- The lock of an acquire is free where it has no holder but the event's own task.
   pub holder-free : {e h d : ℕ} → Holder σ e (object σ e) h d
       → isFree σ e ≡ (eqb h 0 || eqb h (suc (task σ e)))
-  unfolding isFree
   holder-free {e} {h} {d} z = T-ext _ _ (there h z) back
     where
-      test : ℕ → Bool
-      test t = eqb t (task σ e) || not (holds σ e t (object σ e))
-
-      there : (h : ℕ) → Holder σ e (object σ e) h d
-          → T (all test (from 0 tasks)) → T (eqb h 0 || eqb h (suc (task σ e)))
+      there : (h : ℕ) → Holder σ e (object σ e) h d → T (isFree σ e) → T (eqb h 0 || eqb h (suc (task σ e)))
       there zero z p = tt
       there (suc t) z p =
           let b : t < tasks = omega (arith, z .bound) in
-          let fine = all-iff test (from 0 tasks) .0 p t (from-iff 0 tasks t .1 (omega arith, b)) in
           let own : holds σ e t (object σ e) ≡ true = holder-holds z t b ∙ eq-eqb (suc t) (suc t) refl in
           or-r (eqb (suc t) 0) _
-          (rw (eqb·suc-suc t (task σ e)) (or-elim (eqb t (task σ e)) (not (holds σ e t (object σ e)))
-          (λ y. y) (λ n. absurd (rw own at n)) fine))
+          (⊎-elim (λ (q : t ≡ task σ e). rw q (eqb-refl (suc (task σ e))))
+          (λ n. absurd (rw own at (isFree-iff σ e .0 p t b n))) (equal? t (task σ e)))
 
-      back : T (eqb h 0 || eqb h (suc (task σ e))) → T (all test (from 0 tasks))
-      back p = all-iff test (from 0 tasks) .1 (λ t m.
-          decided (eqb t (task σ e)) (λ y. rw y tt)
-          (λ n. rw (n, holder-holds z t (from-iff 0 tasks t .0 m .1), apart t n) tt))
+      back : T (eqb h 0 || eqb h (suc (task σ e))) → T (isFree σ e)
+      back p = isFree-iff σ e .1 (λ t b n. rw (holder-holds z t b, apart t n) tt)
         where
-          apart : (t : ℕ) → eqb t (task σ e) ≡ false → eqb h (suc t) ≡ false
-          apart t n =
-              let d = eqb-false t (task σ e) n in
+          apart : (t : ℕ) → t ≢ task σ e → eqb h (suc t) ≡ false
+          apart t d =
               or-elim (eqb h 0) (eqb h (suc (task σ e)))
               (λ y. ne-eqb h (suc t) (omega (arith, eqb→eq h 0 y)))
               (λ y. ne-eqb h (suc t) (omega (arith, eqb→eq h (suc (task σ e)) y))) p

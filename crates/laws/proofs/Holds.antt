@@ -1,14 +1,17 @@
--- Who holds a lock after one event more. Assumes nothing.
-use Prim.Native.Nat.{ℕ, suc}
-use mathlib.Core.Path.{_≡_}
-use mathlib.Core.Logic.{⊎-elim, _≢_}
-use mathlib.Core.Bool.{true, false, not, _&&_, _||_}
+-- Who holds a lock after one event more, and for which event it is free. Assumes nothing.
+use Prim.Native.Nat.{ℕ, suc, _<_}
+use mathlib.Core.Path.{_≡_, subst}
+use mathlib.Core.Logic.{⊎-elim, _↔_, _≢_}
+use mathlib.Core.Bool.{Bool, true, false, not, _&&_, _||_}
 use native.Mathlib.Omega.{arith}
-use lib.Dec.{T, eqb}
+use lib.Dec.{T, eqb, eqb→eq}
 use borrow.Author.Tests.{eqb-true, eqb-false}
-use Rattle.model.specs.Trace.{Trace, task, object, depth, isAcquire, isRelease}
+use Rattle.model.specs.Lists.{from}
+use Rattle.model.specs.Trace.{Trace, tasks, task, object, depth, isAcquire, isRelease}
 use Rattle.model.specs.Relations.{holds}
-use Rattle.laws.proofs.Tests.{decided, equal?, T-ext, is-true}
+use Rattle.model.specs.WellFormed.{isFree}
+use Rattle.laws.proofs.Tests.{decided, equal?, T-ext, is-true, or-elim, not-false}
+use Rattle.laws.proofs.Lists.{all-iff, all-fails, from-iff}
 use Rattle.laws.proofs.Depth.{isAcquire-iff, isRelease-iff, holds-iff, depth-start, depth-moved}
 use Rattle.laws.proofs.Depth.{depth-enter, depth-leave, depth-apart, depth-other, first-acquire}
 use Rattle.laws.proofs.Depth.{last-release, own-depth}
@@ -78,3 +81,36 @@ module _ (σ : Trace) where
           let one = own-depth σ t l e (record { task-is = p; object-is = q }) in
           let none : depth σ (suc e) t l ≡ 0 = omega (arith, depth-leave σ e t l h p q) in
           rw none
+
+  -- ---- free but for the own task
+
+  abbrev test : ℕ → ℕ → Bool
+  test e t = eqb t (task σ e) || not (holds σ e t (object σ e))
+
+  -- A lock is free for an event where no other task holds it,
+  pub isFree-iff : (e : ℕ)
+      → T (isFree σ e)
+      ↔ ((t : ℕ) → t < tasks → t ≢ task σ e → T (not (holds σ e t (object σ e))))
+  unfolding isFree
+  isFree-iff e = (
+    λ f t b d. or-elim (eqb t (task σ e)) (not (holds σ e t (object σ e)))
+        (λ y. absurd (d (eqb→eq t (task σ e) y))) (λ n. n)
+        (all-iff (test e) (from 0 tasks) .0 f t (from-iff 0 tasks t .1 (omega arith, omega arith))),
+    λ h. all-iff (test e) (from 0 tasks) .1 (λ t m.
+        decided (eqb t (task σ e)) (λ y. rw y tt)
+        (λ n. rw n (h t (from-iff 0 tasks t .0 m .1) (eqb-false t (task σ e) n)))),
+  )
+
+  -- and where it is not, one does.
+  pub isFree-fails : (e : ℕ) → isFree σ e ≡ false
+      → (t : ℕ) × (t < tasks) × (t ≢ task σ e) × T (holds σ e t (object σ e))
+  unfolding isFree
+  isFree-fails e n =
+      let (t, m, f) = all-fails (test e) (from 0 tasks) n in
+      decided (eqb t (task σ e)) (λ y. absurd (subst T (rw y at f) tt))
+      (λ d. (
+        t,
+        from-iff 0 tasks t .0 m .1,
+        eqb-false t (task σ e) d,
+        rw (not-false (holds σ e t (object σ e)) (rw d at f)) tt,
+      ))
