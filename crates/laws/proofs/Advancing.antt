@@ -8,19 +8,21 @@ use native.Mathlib.Omega.{arith}
 use lib.Dec.{T}
 use lib.ListN.{getD, set, length-set}
 use lib.Seq.{getD-set-same, getD-set-other}
-use Rattle.model.specs.Trace.{Trace, locks, task, object, isAcquire}
-use Rattle.model.specs.Relations.{predecessor, writer, matching}
+use Rattle.model.specs.Trace.{Trace, tasks, locks, task, object, isAcquire}
+use Rattle.model.specs.Relations.{predecessor, writer, joined, matching}
+use Rattle.model.specs.Closed.{Direct, predecessor-is, writer-is, joined-is}
+use Rattle.laws.specs.Walked.{previous}
 use Rattle.laws.specs.Frontier.{Frontier, Behind, Visited, Advancing}
 use Rattle.laws.proofs.Tests.{equal?}
 use Rattle.laws.proofs.Trace.{sameTask-iff}
-use Rattle.laws.proofs.Relations.{predecessor-latest, predecessor-below}
+use Rattle.laws.proofs.Relations.{previous-latest, previous-below, previous-own, predecessor-previous}
 use Rattle.laws.proofs.WellFormed.{WellFormed}
 
 module _ (σ : Trace) (front : List ℕ) (t old f : ℕ) (is-task : task σ f ≡ t) where
   -- ---- one event more
 
-  -- With event f visited, the ones left are its predecessor and those before that.
-  visited-step : (e : ℕ) → Visited σ front t old (predecessor σ f) e → Visited σ front t old f e ⊎ (e ≡ f)
+  -- With event f visited, the ones left are the previous one of its task and those before that.
+  visited-step : (e : ℕ) → Visited σ front t old (previous σ f) e → Visited σ front t old f e ⊎ (e ≡ f)
   visited-step e v = ⊎-elim inr (λ d. inl (record {
     behind = v .behind;
     passed = λ q k. v .passed q
@@ -28,44 +30,88 @@ module _ (σ : Trace) (front : List ℕ) (t old f : ℕ) (is-task : task σ f �
   }))
       (equal? e f)
     where
-      below : e ≢ f → task σ e ≡ t → e ≤ f → e ≤ predecessor σ f
+      below : e ≢ f → task σ e ≡ t → e ≤ f → e ≤ previous σ f
       below d q k =
-          predecessor-latest σ f .latest e (omega arith) (sameTask-iff σ f e .1 (is-task ∙ sym q))
+          previous-latest σ f .latest e (omega arith) (sameTask-iff σ f e .1 (is-task ∙ sym q))
 
-  visited-keep : (e : ℕ) → Visited σ front t old f e → Visited σ front t old (predecessor σ f) e
+  visited-keep : (e : ℕ) → Visited σ front t old f e → Visited σ front t old (previous σ f) e
   visited-keep e v = record {
     behind = v .behind;
-    passed = λ q k. v .passed q (omega (arith, predecessor-below σ f));
+    passed = λ q k. v .passed q (omega (arith, previous-below σ f));
   }
 
-  visited-new : Behind σ front f → Visited σ front t old (predecessor σ f) f
+  visited-new : Behind σ front f → Visited σ front t old (previous σ f) f
   visited-new b = record {
     behind = b;
     passed = λ q k. absurd
-        (omega (arith, b .event, predecessor-below σ f));
+        (omega (arith, b .event, previous-below σ f));
   }
+
+-- With more wanted, the frontier is on its way, too.
+pub advancing-more : (σ : Trace) (front want latest : List ℕ) (t old f : ℕ)
+    → Advancing σ front want latest t old f → (want′ : List ℕ) → Frontier σ want′
+    → ((u : ℕ) → getD want u 0 ≤ getD want′ u 0) → Advancing σ front want′ latest t old f
+advancing-more σ front want latest t old f z want′ fr grows = record {
+  front-ok = z .front-ok;
+  want-ok = fr;
+  ahead = λ u l. omega (arith, z .ahead u l, grows u);
+  latest-long = z .latest-long;
+  direct-wanted = λ e x v r d. omega (arith, z .direct-wanted e x v r d, grows (task σ x));
+  latest-visited = z .latest-visited;
+  latest-most = z .latest-most;
+  match-wanted = λ e v a k. omega (arith, z .match-wanted e v a k, grows (task σ e));
+}
 
 module _ (σ : Trace) (ok : WellFormed σ) (front want latest : List ℕ) (t old f : ℕ)
     (z : Advancing σ front want latest t old f) (is-task : task σ f ≡ t) (at-f : Behind σ front f)
     (left : old < f) where
   -- An event is visited before f, or it is f.
-  cases : (e : ℕ) → Visited σ front t old (predecessor σ f) e → Visited σ front t old f e ⊎ (e ≡ f)
+  cases : (e : ℕ) → Visited σ front t old (previous σ f) e → Visited σ front t old f e ⊎ (e ≡ f)
   cases = visited-step σ front t old f is-task
+
+  -- What the event needs by itself is wanted.
+  abbrev pub Needed : List ℕ → Type 0
+  Needed want′ = (x : ℕ) → Direct σ f x → x ≢ 0 → x ≤ getD want′ (task σ x) 0
+
+  -- So it is where its writer and what it joins are wanted, and of its task's first event the start: another
+  -- event has its predecessor in its own task, behind the frontier.
+  pub needed : (want′ : List ℕ) → task σ f < tasks → ((u : ℕ) → getD want u 0 ≤ getD want′ u 0)
+      → (writer σ f ≢ 0 → writer σ f ≤ getD want′ (task σ (writer σ f)) 0)
+      → (joined σ f ≢ 0 → joined σ f ≤ getD want′ (task σ (joined σ f)) 0)
+      → (previous σ f ≡ 0 → predecessor σ f ≢ 0
+      → predecessor σ f ≤ getD want′ (task σ (predecessor σ f)) 0) → Needed want′
+  needed want′ small grows written joins starts x (writer-is q) d = rw q (written (rw q at d))
+  needed want′ small grows written joins starts x (joined-is q) d = rw q (joins (rw q at d))
+  needed want′ small grows written joins starts x (predecessor-is q) d =
+      rw q (⊎-elim (λ (n : previous σ f ≡ 0). starts n (rw q at d))
+      (λ (n : previous σ f ≢ 0). rw (predecessor-previous σ f n, previous-own σ f n) (omega (
+        arith,
+        previous-below σ f,
+        at-f .within,
+        z .ahead (task σ f) small,
+        grows (task σ f),
+      )))
+      (equal? (previous σ f) 0))
+
+  wanted : (want′ : List ℕ) → ((u : ℕ) → getD want u 0 ≤ getD want′ u 0) → Needed want′
+      → (e x : ℕ) → Visited σ front t old (previous σ f) e → Direct σ e x → x ≢ 0
+      → x ≤ getD want′ (task σ x) 0
+  wanted want′ grows n e x v r d =
+      ⊎-elim (λ w. omega (arith, z .direct-wanted e x w r d, grows (task σ x)))
+      (λ (q : e ≡ f). n x (rw q at r) d) (cases e v)
 
   -- ---- an event that is no acquire
 
-  -- What its writer asks for is wanted.
+  -- What it needs is wanted.
   pub visit-other : (want′ : List ℕ) → Frontier σ want′ → ((u : ℕ) → getD want u 0 ≤ getD want′ u 0)
-      → (writer σ f ≢ 0 → writer σ f ≤ getD want′ (task σ (writer σ f)) 0) → isAcquire σ f ≡ false
-      → Advancing σ front want′ latest t old (predecessor σ f)
-  visit-other want′ fr grows written away = record {
+      → Needed want′ → isAcquire σ f ≡ false
+      → Advancing σ front want′ latest t old (previous σ f)
+  visit-other want′ fr grows needed away = record {
     front-ok = z .front-ok;
     want-ok = fr;
     ahead = λ u l. omega (arith, z .ahead u l, grows u);
     latest-long = z .latest-long;
-    writer-wanted = λ e v d. ⊎-elim
-        (λ w. omega (arith, z .writer-wanted e w d, grows (task σ (writer σ e))))
-        (λ (q : e ≡ f). rw q (written (rw q at d))) (cases e v);
+    direct-wanted = wanted want′ grows needed;
     latest-visited = λ l b d.
         let (v, a, q) = z .latest-visited l b d in (visited-keep σ front t old f is-task _ v, a, q);
     latest-most = λ e v a. ⊎-elim (λ w. z .latest-most e w a) (λ (q : e ≡ f). absurd (never q a)) (cases e v);
@@ -81,16 +127,14 @@ module _ (σ : Trace) (ok : WellFormed σ) (front want latest : List ℕ) (t old
 
   -- Its own match is wanted.
   pub visit-earlier : (want′ : List ℕ) → Frontier σ want′ → ((u : ℕ) → getD want u 0 ≤ getD want′ u 0)
-      → writer σ f ≡ 0 → f < getD latest (object σ f) 0 → matching σ f ≤ getD want′ (task σ f) 0
-      → Advancing σ front want′ latest t old (predecessor σ f)
-  visit-earlier want′ fr grows none early matched = record {
+      → Needed want′ → f < getD latest (object σ f) 0 → matching σ f ≤ getD want′ (task σ f) 0
+      → Advancing σ front want′ latest t old (previous σ f)
+  visit-earlier want′ fr grows needed early matched = record {
     front-ok = z .front-ok;
     want-ok = fr;
     ahead = λ u l. omega (arith, z .ahead u l, grows u);
     latest-long = z .latest-long;
-    writer-wanted = λ e v d. ⊎-elim
-        (λ w. omega (arith, z .writer-wanted e w d, grows (task σ (writer σ e))))
-        (λ (q : e ≡ f). absurd (d (rw q none))) (cases e v);
+    direct-wanted = wanted want′ grows needed;
     latest-visited = λ l b d.
         let (v, a, q) = z .latest-visited l b d in (visited-keep σ front t old f is-task _ v, a, q);
     latest-most = λ e v a. ⊎-elim (λ w. z .latest-most e w a) (λ (q : e ≡ f). rw q (omega arith)) (cases e v);
@@ -103,21 +147,19 @@ module _ (σ : Trace) (ok : WellFormed σ) (front want latest : List ℕ) (t old
 
   -- The match of that one is wanted, where there is one.
   pub visit-later : (want′ : List ℕ) → Frontier σ want′ → ((u : ℕ) → getD want u 0 ≤ getD want′ u 0)
-      → writer σ f ≡ 0 → T (isAcquire σ f) → object σ f < locks → getD latest (object σ f) 0 < f
+      → Needed want′ → T (isAcquire σ f) → object σ f < locks → getD latest (object σ f) 0 < f
       → (getD latest (object σ f) 0 ≢ 0
       → matching σ (getD latest (object σ f) 0) ≤ getD want′ (task σ (getD latest (object σ f) 0)) 0)
-      → Advancing σ front want′ (set latest (object σ f) f) t old (predecessor σ f)
-  visit-later want′ fr grows none acquire small later matched = record {
+      → Advancing σ front want′ (set latest (object σ f) f) t old (previous σ f)
+  visit-later want′ fr grows needed acquire small later matched = record {
     front-ok = z .front-ok;
     want-ok = fr;
     ahead = λ u l. omega (arith, z .ahead u l, grows u);
     latest-long = length-set latest (object σ f) f ∙ z .latest-long;
-    writer-wanted = λ e v d. ⊎-elim
-        (λ w. omega (arith, z .writer-wanted e w d, grows (task σ (writer σ e))))
-        (λ (q : e ≡ f). absurd (d (rw q none))) (cases e v);
+    direct-wanted = wanted want′ grows needed;
     latest-visited = λ l b d. ⊎-elim (new l) (old-one l b d) (equal? l (object σ f));
     latest-most = λ e v a. ⊎-elim (most e a) (λ (q : e ≡ f). rw (q, here) (omega arith)) (cases e v);
-    match-wanted = λ e v a k. ⊎-elim (wanted e a k)
+    match-wanted = λ e v a k. ⊎-elim (matches e a k)
         (λ (q : e ≡ f). absurd (omega (arith, rw (q, here) at k))) (cases e v);
   }
     where
@@ -125,13 +167,13 @@ module _ (σ : Trace) (ok : WellFormed σ) (front want latest : List ℕ) (t old
       here = getD-set-same latest (object σ f) f 0 (omega (arith, z .latest-long))
 
       new : (l : ℕ) → l ≡ object σ f
-          → Visited σ front t old (predecessor σ f) (getD (set latest (object σ f) f) l 0)
+          → Visited σ front t old (previous σ f) (getD (set latest (object σ f) f) l 0)
           × T (isAcquire σ (getD (set latest (object σ f) f) l 0))
           × (object σ (getD (set latest (object σ f) f) l 0) ≡ l)
       new l q = rw (q, here) (visited-new σ front t old f is-task at-f, acquire, refl)
 
       old-one : (l : ℕ) → l < locks → getD (set latest (object σ f) f) l 0 ≢ 0 → l ≢ object σ f
-          → Visited σ front t old (predecessor σ f) (getD (set latest (object σ f) f) l 0)
+          → Visited σ front t old (previous σ f) (getD (set latest (object σ f) f) l 0)
           × T (isAcquire σ (getD (set latest (object σ f) f) l 0))
           × (object σ (getD (set latest (object σ f) f) l 0) ≡ l)
       old-one l b d x =
@@ -147,9 +189,9 @@ module _ (σ : Trace) (ok : WellFormed σ) (front want latest : List ℕ) (t old
           (λ (x : object σ e ≢ object σ f). rw (getD-set-other latest (object σ f) (object σ e) f 0 x)
           (z .latest-most e w a)) (equal? (object σ e) (object σ f))
 
-      wanted : (e : ℕ) → T (isAcquire σ e) → e < getD (set latest (object σ f) f) (object σ e) 0
+      matches : (e : ℕ) → T (isAcquire σ e) → e < getD (set latest (object σ f) f) (object σ e) 0
           → Visited σ front t old f e → matching σ e ≤ getD want′ (task σ e) 0
-      wanted e a k w =
+      matches e a k w =
           ⊎-elim
           (λ (q : object σ e ≡ object σ f). of-lock q)
           (λ (x : object σ e ≢ object σ f).

@@ -12,7 +12,7 @@ use lib.ListN.{length, getD, replicate}
 use borrow.Author.Tests.{lt-leb, le-ltb}
 use Rattle.model.specs.Lists.{all}
 use Rattle.model.specs.Trace.{Trace, tasks, locks, task, isEvent}
-use Rattle.model.specs.Relations.{predecessor, writer}
+use Rattle.model.specs.Relations.{predecessor}
 use Rattle.model.specs.EventSet.{has}
 use Rattle.model.specs.Closed.{Closed}
 use Rattle.model.specs.Closure.{closure}
@@ -21,13 +21,14 @@ use Rattle.laws.specs.Frontier.{Frontier, Settled, raised, Advanced, Bef
 use Rattle.laws.proofs.Tests.{is-false, equal?}
 use Rattle.laws.proofs.Lists.{all-ext, all-iff, zeros}
 use Rattle.laws.proofs.Trace.{isEvent-iff}
-use Rattle.laws.proofs.Relations.{predecessor-below, predecessor-own}
+use Rattle.laws.proofs.Relations.{predecessor-below}
 use Rattle.laws.proofs.Frontier.{raised-grows, raised-reaches, raised-cases, raised-frontier}
+use Rattle.laws.proofs.Frontier.{raised-zero}
 use Rattle.laws.proofs.WellFormed.{WellFormed}
 use Rattle.laws.proofs.Turns.{settled-start}
 use Rattle.laws.proofs.Reached.{closure-behind}
-use Rattle.laws.proofs.Verdict.{predecessors-least, predecessors-sized, before-least}
-use Rattle.laws.proofs.Verdict.{before-mono, predecessors-has}
+use Rattle.laws.proofs.Verdict.{predecessors-least, predecessors-sized, before-least, before-mono}
+use Rattle.laws.proofs.Verdict.{predecessors-has}
 use Rattle.laws.proofs.Closure.{closure-contains}
 
 module _ (σ : Trace) where
@@ -41,7 +42,7 @@ module _ (σ : Trace) where
     want-ok = more;
     ahead = λ u h. omega (arith, z .ahead u h, grows u);
     latest-long = z .latest-long;
-    writer-wanted = λ x v d. omega (arith, z .writer-wanted x v d, grows (task σ (writer σ x)));
+    direct-wanted = λ e x v r d. omega (arith, z .direct-wanted e x v r d, grows (task σ x));
     latest-visited = z .latest-visited;
     latest-most = z .latest-most;
     match-wanted = λ x v a h. omega (arith, z .match-wanted x v a h, grows (task σ x));
@@ -82,23 +83,41 @@ module _ (σ : Trace) where
 
   -- ---- one event more
 
-  -- The closure of one predecessor more is reached from the one before.
+  -- The closure of one predecessor more is reached from the one before. The predecessor is of the event's
+  -- task, or its start, of another one.
   pub before-extend : WellFormed σ → (p front latest : List ℕ) (e : ℕ) (front′ latest′ : List ℕ)
       → Before σ p front latest → 1 ≤ e → e ≤ length σ
-      → Advanced σ (raised front (task σ e) (predecessor σ e)) front′ latest′
+      → Advanced σ (raised front (task σ (predecessor σ e)) (predecessor σ e)) front′ latest′
       → Before σ (p ++ e ∷ []) front′ latest′
   unfolding closureBefore
   before-extend ok p front latest e front′ latest′ z h k a = record {
     settled = a .settled;
     members = closure-behind σ ok (predecessors σ (p ++ e ∷ [])) (predecessors-sized σ (p ++ e ∷ []))
-        (raised front (task σ e) (predecessor σ e)) front′ latest′ a reach tops;
+        given front′ latest′ a reach tops;
   }
     where
-      small : task σ e < length front
-      small = omega (arith, ok .task-lt e h k, z .settled .front-ok .long)
+      given : List ℕ
+      given = raised front (task σ (predecessor σ e)) (predecessor σ e)
 
-      reach : (x : ℕ) → T (has (predecessors σ (p ++ e ∷ [])) x)
-          → x ≤ getD (raised front (task σ e) (predecessor σ e)) (task σ x) 0
+      small : predecessor σ e ≢ 0 → task σ (predecessor σ e) < length front
+      small d =
+          let low = predecessor-below σ e in
+          omega (
+            arith,
+            ok .task-lt (predecessor σ e) (omega arith) (omega arith),
+            z .settled .front-ok .long,
+          )
+
+      none : predecessor σ e ≡ 0 → given ≡ front
+      none q = rw q (raised-zero front (task σ 0))
+
+      grows : (u : ℕ) → getD front u 0 ≤ getD given u 0
+      grows u =
+          ⊎-elim (λ (q : predecessor σ e ≡ 0). rw (none q) (omega arith))
+          (λ (d : predecessor σ e ≢ 0). raised-grows front (task σ (predecessor σ e)) (predecessor σ e)
+          (small d) u) (equal? (predecessor σ e) 0)
+
+      reach : (x : ℕ) → T (has (predecessors σ (p ++ e ∷ [])) x) → x ≤ getD given (task σ x) 0
       reach = predecessors-least σ _ (p ++ e ∷ []) new
         where
           start : (f : ℕ) → List·Memᴰ f p → predecessor σ f ≢ 0 → predecessor σ f ≤ length σ
@@ -106,36 +125,33 @@ module _ (σ : Trace) where
           start f n d l = closure-contains σ (predecessors σ p) (predecessor σ f) (predecessors-has σ p n d l)
 
           new : (f : ℕ) → List·Memᴰ f (p ++ e ∷ []) → predecessor σ f ≢ 0 → predecessor σ f ≤ length σ
-              → predecessor σ f ≤ getD (raised front (task σ e) (predecessor σ e))
-              (task σ (predecessor σ f)) 0
+              → predecessor σ f ≤ getD given (task σ (predecessor σ f)) 0
           new f m d l = ⊎-elim old (λ n. latest-one (List·Memᴰ·eq-of-singleton n))
               (List·Memᴰ·append-cases p m)
             where
-              old : List·Memᴰ f p
-                  → predecessor σ f ≤ getD (raised front (task σ e) (predecessor σ e))
-                  (task σ (predecessor σ f)) 0
+              old : List·Memᴰ f p → predecessor σ f ≤ getD given (task σ (predecessor σ f)) 0
               old n =
                   let u = task σ (predecessor σ f) in
                   let inside : T (has (closureBefore σ p) (predecessor σ f)) = start f n d l in
                   let low = leb→le (predecessor σ f) (getD front u 0)
                   (rw (z .members (predecessor σ f) (omega arith) l) at inside) in
-                  omega (arith, raised-grows front (task σ e) (predecessor σ e) small u)
+                  omega (arith, grows u)
 
-              latest-one : f ≡ e
-                  → predecessor σ f ≤ getD (raised front (task σ e) (predecessor σ e))
-                  (task σ (predecessor σ f)) 0
+              latest-one : f ≡ e → predecessor σ f ≤ getD given (task σ (predecessor σ f)) 0
               latest-one q =
                   let d′ : predecessor σ e ≢ 0 = rw q at d in
-                  rw (q, predecessor-own σ e d′) (raised-reaches front (task σ e) (predecessor σ e) small)
+                  rw q (raised-reaches front (task σ (predecessor σ e)) (predecessor σ e) (small d′))
 
-      tops : (u : ℕ) → u < tasks → getD (raised front (task σ e) (predecessor σ e)) u 0 ≢ 0
-          → T (has (closure σ (predecessors σ (p ++ e ∷ [])))
-          (getD (raised front (task σ e) (predecessor σ e)) u 0))
-      tops u l d = ⊎-elim old new (raised-cases front (task σ e) (predecessor σ e) small u)
+      tops : (u : ℕ) → u < tasks → getD given u 0 ≢ 0
+          → T (has (closure σ (predecessors σ (p ++ e ∷ []))) (getD given u 0))
+      tops u l d =
+          ⊎-elim (λ (n : predecessor σ e ≡ 0). old (rw (none n) refl))
+          (λ n. ⊎-elim old (new n)
+          (raised-cases front (task σ (predecessor σ e)) (predecessor σ e) (small n) u))
+          (equal? (predecessor σ e) 0)
         where
-          old : getD (raised front (task σ e) (predecessor σ e)) u 0 ≡ getD front u 0
-              → T (has (closure σ (predecessors σ (p ++ e ∷ [])))
-              (getD (raised front (task σ e) (predecessor σ e)) u 0))
+          old : getD given u 0 ≡ getD front u 0
+              → T (has (closure σ (predecessors σ (p ++ e ∷ []))) (getD given u 0))
           old q =
               let n : getD front u 0 ≢ 0 = rw q at d in
               let (low, mine) = z .settled .front-ok .own u l n in
@@ -144,11 +160,9 @@ module _ (σ : Trace) where
               (le→leb (getD front u 0) (getD front u 0) (omega arith)) in
               rw q (before-mono σ p (e ∷ []) (getD front u 0) here)
 
-          new : (u ≡ task σ e) × (getD (raised front (task σ e) (predecessor σ e)) u 0 ≡ predecessor σ e)
-              → T (has (closure σ (predecessors σ (p ++ e ∷ [])))
-              (getD (raised front (task σ e) (predecessor σ e)) u 0))
-          new (s, q) =
-              let n : predecessor σ e ≢ 0 = rw q at d in
+          new : predecessor σ e ≢ 0 → (u ≡ task σ (predecessor σ e)) × (getD given u 0 ≡ predecessor σ e)
+              → T (has (closure σ (predecessors σ (p ++ e ∷ []))) (getD given u 0))
+          new n (s, q) =
               rw q (closure-contains σ (predecessors σ (p ++ e ∷ [])) (predecessor σ e)
               (predecessors-has σ (p ++ e ∷ []) (Memᴰ·append-right p (List·Memᴰ·head refl)) n
               (omega (arith, predecessor-below σ e))))

@@ -8,12 +8,13 @@ use mathlib.Core.Bool.{true, false, cond, _||_, and-false}
 use native.Mathlib.Omega.{arith}
 use lib.Dec.{T, not-T, eqb, eqb→eq, ltb→lt, lt→ltb}
 use borrow.Author.Tests.{eq-eqb, ne-eqb}
-use Rattle.model.specs.Trace.{Trace, acquireOp, releaseOp, noEvent, at, task, object, enters, leaves}
+use Rattle.model.specs.Trace.{Trace, noEvent, at, task, object, hasAcquireOp, hasReleaseOp, enters, leaves}
 use Rattle.model.specs.Trace.{operates}
 use Rattle.model.specs.Trace.{depth, ownDepth, isAcquire, isRelease}
 use Rattle.model.specs.Relations.{holds}
 use Rattle.laws.proofs.Tests.{parts, and-l, and-r, and-i, decided, equal?, eq→eqb, is-true}
 use Rattle.laws.proofs.Tests.{is-false}
+use Rattle.laws.proofs.Trace.{enters-leaves}
 
 module _ (σ : Trace) where
   -- ---- outer events
@@ -34,11 +35,15 @@ module _ (σ : Trace) where
     λ r. and-i (leaves σ e) _ (r .0) (eq→eqb (ownDepth σ e) 1 (r .1)),
   )
 
-  -- No event enters and leaves.
-  pub enters-leaves : (e : ℕ) → T (enters σ e) → T (leaves σ e) → ⊥
-  unfolding enters leaves
-  enters-leaves e t u =
-      omega (arith, eqb→eq (at σ e .op) acquireOp t, eqb→eq (at σ e .op) releaseOp u)
+  -- Of events that enter a lock the outer ones are at depth 0,
+  pub isAcquire-own : (e d : ℕ) → T (enters σ e) → ownDepth σ e ≡ d → isAcquire σ e ≡ eqb d 0
+  unfolding isAcquire
+  isAcquire-own e d a q = rw (is-true (enters σ e) a, q)
+
+  -- and of those that leave it at depth 1.
+  pub isRelease-own : (e d : ℕ) → T (leaves σ e) → ownDepth σ e ≡ d → isRelease σ e ≡ eqb d 1
+  unfolding isRelease
+  isRelease-own e d a q = rw (is-true (leaves σ e) a, q)
 
   -- A task holds a lock where its depth is above 0.
   pub holds-iff : (e t l : ℕ) → T (holds σ e t l) ↔ (0 < depth σ e t l)
@@ -56,7 +61,7 @@ module _ (σ : Trace) where
 
   -- Before event 1 the depth is 0.
   pub depth-start : (t l : ℕ) → depth σ 1 t l ≡ 0
-  unfolding depth operates enters leaves at noEvent
+  unfolding depth operates enters leaves hasAcquireOp hasReleaseOp at noEvent
   depth-start t l = rw and-false
 
   -- What one event does to a depth.
@@ -95,7 +100,7 @@ module _ (σ : Trace) where
       → depth σ (suc e) t l ≡ depth σ e t l - 1
   unfolding operates
   depth-leave e t l a p q =
-      let no = is-false (enters σ e) (not-T (enters σ e) (λ t. enters-leaves e t a)) in
+      let no = is-false (enters σ e) (not-T (enters σ e) (λ t. enters-leaves σ e t a)) in
       depth-step e t l
       ∙ rw (no, is-true (leaves σ e) a, eq-eqb (task σ e) t p, eq-eqb (object σ e) l q)
 
@@ -109,7 +114,7 @@ module _ (σ : Trace) where
   unfolding operates
   depth-other e t l d = depth-step e t l ∙ rw (ne-eqb (task σ e) t d)
 
-  -- nor a read or a write.
+  -- nor an event that neither enters nor leaves a lock.
   pub depth-access : (e t l : ℕ) → enters σ e ≡ false → leaves σ e ≡ false
       → depth σ (suc e) t l ≡ depth σ e t l
   unfolding operates

@@ -1,93 +1,136 @@
 -- The tests for an event by its kind, and the kind by the depth of its lock. Assumes nothing.
-use Prim.Native.Nat.{ℕ, _<_}
+use Prim.Native.Nat.{ℕ, _≤_, _<_}
 use mathlib.Core.Path.{_≡_, refl, sym, _∙_}
 use mathlib.Core.Logic.{⊎-elim, _≢_}
-use mathlib.Core.Bool.{true, false, cond, not, _&&_, _||_}
+use mathlib.Core.Bool.{Bool, true, false, cond, not, _&&_, _||_}
 use native.Mathlib.Omega.{arith}
-use lib.Dec.{T, eqb, eqb→eq}
-use borrow.Author.Tests.{ne-eqb}
-use Rattle.model.specs.Trace.{Trace, at, isRead, enters, leaves, ownDepth, isAcquire, isRelease, isInner}
-use Rattle.laws.specs.EventKinds.{innerKind, kind}
-use Rattle.laws.proofs.Tests.{decided, equal?, or-elim, and-l}
+use lib.Dec.{T, eqb}
+use borrow.Author.Tests.{ne-eqb, lt-ltb}
+use Rattle.model.specs.Trace.{Trace, locks, at, object, isRead, hasAcquireOp, hasReleaseOp}
+use Rattle.model.specs.Trace.{namesLock, enters, leaves, ownDepth, isAcquire, isRelease, isInner}
+use Rattle.laws.specs.EventKinds.{uncountedKind, isUncounted, kind}
+use Rattle.laws.proofs.Tests.{parts, decided, equal?, is-true, and-i, or-l, or-r, or-elim}
+use Rattle.laws.proofs.Operations.{isAcquire-op, isRelease-op, isAcquire-none, isRelease-none}
+use Rattle.laws.proofs.Operations.{isAcquire-task, isRelease-task}
 
--- The kind of an operation at a depth.
-abbrev kindOf : ℕ → ℕ → ℕ
-kindOf op d =
-    cond ((eqb op 2 && not (eqb op 2 && eqb d 0)) || (eqb op 3 && not (eqb op 3 && eqb d 1))) innerKind op
+-- The kind of an operation, by whether it is an outer acquire or release.
+abbrev kindOf : ℕ → Bool → Bool → ℕ
+kindOf op x y = cond ((eqb op 2 && not x) || (eqb op 3 && not y)) uncountedKind op
 
--- What holds of each operation and depth holds of all.
-by-operation : (P : ℕ → ℕ → Type 0) → ((d : ℕ) → P 2 d) → ((d : ℕ) → P 3 d)
-    → ((op d : ℕ) → op ≢ 2 → op ≢ 3 → P op d) → (op d : ℕ) → P op d
-by-operation P two three other op d =
-    ⊎-elim (λ (q : op ≡ 2). rw q (two d))
-    (λ (m : op ≢ 2). ⊎-elim (λ (q : op ≡ 3). rw q (three d)) (λ (n : op ≢ 3). other op d m n) (equal? op 3))
-    (equal? op 2)
+-- What holds of each operation, outer or not, holds of an event.
+by-operation : (σ : Trace) (e : ℕ) (P : ℕ → Bool → Bool → Type 0)
+    → P 2 true false → P 2 false false → P 3 false true → P 3 false false
+    → ((op : ℕ) → op ≢ 2 → op ≢ 3 → P op false false) → P (at σ e .op) (isAcquire σ e) (isRelease σ e)
+by-operation σ e P a b c d other =
+    ⊎-elim
+    (λ (q : at σ e .op ≡ 2).
+    let none = isRelease-none σ e refl (omega arith) in
+    decided (isAcquire σ e) (λ y. rw (q, y, none) a) (λ n. rw (q, n, none) b))
+    (λ (m : at σ e .op ≢ 2).
+    let none = isAcquire-none σ e refl m in
+    ⊎-elim
+    (λ (q : at σ e .op ≡ 3).
+    decided (isRelease σ e) (λ y. rw (q, y, none) c) (λ n. rw (q, n, none) d))
+    (λ (n : at σ e .op ≢ 3). rw (none, isRelease-none σ e refl n) (other (at σ e .op) m n))
+    (equal? (at σ e .op) 3))
+    (equal? (at σ e .op) 2)
 
 module _ (σ : Trace) (e : ℕ) {k : ℕ} (q : k ≡ kind σ e) where
-  -- An outer acquire's kind is 2,
+  -- A read's kind is 0,
+  pub isRead-kind : isRead σ e ≡ eqb k 0
+  unfolding kind isUncounted isRead hasAcquireOp hasReleaseOp
+  isRead-kind =
+      rw q (by-operation σ e (λ op x y. eqb op 0 ≡ eqb (kindOf op x y) 0) refl refl refl refl
+      (λ op m n. rw (ne-eqb op 2 m, ne-eqb op 3 n)))
+
+  -- an outer acquire's is 2,
   pub isAcquire-kind : isAcquire σ e ≡ eqb k 2
-  unfolding kind isInner isAcquire isRelease enters leaves
+  unfolding kind isUncounted hasAcquireOp hasReleaseOp
   isAcquire-kind =
-      rw q (by-operation (λ op d. (eqb op 2 && eqb d 0) ≡ eqb (kindOf op d) 2)
-      (λ d. decided (eqb d 0) (λ y. rw y) (λ n. rw n))
-      (λ d. decided (eqb d 1) (λ y. rw y) (λ n. rw n))
-      (λ op d m n. rw (ne-eqb op 2 m, ne-eqb op 3 n) (sym (ne-eqb op 2 m))) (at σ e .op) (ownDepth σ e))
+      rw q (by-operation σ e (λ op x y. x ≡ eqb (kindOf op x y) 2) refl refl refl refl
+      (λ op m n. rw (ne-eqb op 2 m, ne-eqb op 3 n) (sym (ne-eqb op 2 m))))
 
-  -- an outer release's is 3,
+  -- and an outer release's is 3.
   pub isRelease-kind : isRelease σ e ≡ eqb k 3
-  unfolding kind isInner isAcquire isRelease enters leaves
+  unfolding kind isUncounted hasAcquireOp hasReleaseOp
   isRelease-kind =
-      rw q (by-operation (λ op d. (eqb op 3 && eqb d 1) ≡ eqb (kindOf op d) 3)
-      (λ d. decided (eqb d 0) (λ y. rw y) (λ n. rw n))
-      (λ d. decided (eqb d 1) (λ y. rw y) (λ n. rw n))
-      (λ op d m n. rw (ne-eqb op 2 m, ne-eqb op 3 n) (sym (ne-eqb op 3 n))) (at σ e .op) (ownDepth σ e))
+      rw q (by-operation σ e (λ op x y. y ≡ eqb (kindOf op x y) 3) refl refl refl refl
+      (λ op m n. rw (ne-eqb op 2 m, ne-eqb op 3 n) (sym (ne-eqb op 3 n))))
 
-  -- and an inner one's is 4.
-  pub isInner-kind : at σ e .op ≢ innerKind → isInner σ e ≡ eqb k innerKind
+  -- That of a record that does not count is 4.
+  pub isUncounted-kind : at σ e .op ≢ uncountedKind → isUncounted σ e ≡ eqb k uncountedKind
   unfolding kind
-  isInner-kind d =
-      rw q (decided (isInner σ e) (λ y. rw y) (λ n. rw n (sym (ne-eqb (at σ e .op) innerKind d))))
+  isUncounted-kind d =
+      rw q (decided (isUncounted σ e) (λ y. rw y) (λ n. rw n (sym (ne-eqb (at σ e .op) uncountedKind d))))
 
 module _ (σ : Trace) (e : ℕ) where
-  -- An inner one is no outer acquire,
-  pub inner-acquire : isInner σ e ≡ true → isAcquire σ e ≡ false
+  -- Such a record is no outer acquire,
+  pub uncounted-acquire : isUncounted σ e ≡ true → isAcquire σ e ≡ false
   unfolding kind
-  inner-acquire y = isAcquire-kind σ e refl ∙ rw y
+  uncounted-acquire y = isAcquire-kind σ e refl ∙ rw y
 
   -- no outer release,
-  pub inner-release : isInner σ e ≡ true → isRelease σ e ≡ false
+  pub uncounted-release : isUncounted σ e ≡ true → isRelease σ e ≡ false
   unfolding kind
-  inner-release y = isRelease-kind σ e refl ∙ rw y
+  uncounted-release y = isRelease-kind σ e refl ∙ rw y
 
-  -- nor a read.
-  pub inner-read : isInner σ e ≡ true → isRead σ e ≡ false
-  unfolding isInner isRead enters leaves
-  inner-read y =
-      ne-eqb (at σ e .op) 0 (λ z.
-      or-elim (enters σ e && not (isAcquire σ e)) (leaves σ e && not (isRelease σ e))
-      (λ t. omega (arith, eqb→eq (at σ e .op) 2 (and-l (enters σ e) _ t)))
-      (λ t. omega (arith, eqb→eq (at σ e .op) 3 (and-l (leaves σ e) _ t))) (rw y tt))
+  -- and no read.
+  pub uncounted-read : isUncounted σ e ≡ true → isRead σ e ≡ false
+  unfolding kind
+  uncounted-read y = isRead-kind σ e refl ∙ rw y
 
-  -- So an outer acquire is no inner one,
-  pub acquire-inner : T (isAcquire σ e) → isInner σ e ≡ false
-  acquire-inner a = decided (isInner σ e) (λ y. absurd (rw (inner-acquire y) at a)) (λ n. n)
+  -- So an outer acquire is no such record,
+  pub acquire-uncounted : T (isAcquire σ e) → isUncounted σ e ≡ false
+  acquire-uncounted a = decided (isUncounted σ e) (λ y. absurd (rw (uncounted-acquire y) at a)) (λ n. n)
 
   -- and neither is an outer release.
-  pub release-inner : T (isRelease σ e) → isInner σ e ≡ false
-  release-inner a = decided (isInner σ e) (λ y. absurd (rw (inner-release y) at a)) (λ n. n)
+  pub release-uncounted : T (isRelease σ e) → isUncounted σ e ≡ false
+  release-uncounted a = decided (isUncounted σ e) (λ y. absurd (rw (uncounted-release y) at a)) (λ n. n)
+
+  -- An inner acquire or release is one.
+  pub inner-uncounted : T (isInner σ e) → isUncounted σ e ≡ true
+  unfolding isInner isUncounted enters leaves
+  inner-uncounted t =
+      is-true ((hasAcquireOp σ e && not (isAcquire σ e)) || (hasReleaseOp σ e && not (isRelease σ e)))
+      (or-elim (enters σ e && not (isAcquire σ e)) (leaves σ e && not (isRelease σ e))
+      (λ u. or-l (hasAcquireOp σ e && not (isAcquire σ e)) _
+      (let a : T (hasAcquireOp σ e) = search parts in let n : T (not (isAcquire σ e)) = search parts in
+      and-i (hasAcquireOp σ e) _ a n))
+      (λ u. or-r (hasAcquireOp σ e && not (isAcquire σ e)) _
+      (let a : T (hasReleaseOp σ e) = search parts in let n : T (not (isRelease σ e)) = search parts in
+      and-i (hasReleaseOp σ e) _ a n)) t)
+
+  -- So it is no outer acquire.
+  pub acquire-inner : T (isAcquire σ e) → isInner σ e ≡ false
+  acquire-inner a =
+      decided (isInner σ e) (λ y. absurd (rw (uncounted-acquire (inner-uncounted (rw y tt))) at a)) (λ n. n)
 
 module _ (σ : Trace) (e : ℕ) {op : ℕ} (q : op ≡ at σ e .op) where
   -- The kind of a read or a write is its operation.
   pub kind-access : op < 2 → op ≡ kind σ e
-  unfolding kind isInner isAcquire isRelease enters leaves
+  unfolding kind isUncounted hasAcquireOp hasReleaseOp
   kind-access h = rw (← q, ne-eqb op 2 (omega arith), ne-eqb op 3 (omega arith))
 
-  -- That of an acquire is its operation at depth 0,
-  pub kind-enter : op ≡ 2 → (d : ℕ) → ownDepth σ e ≡ d → cond (eqb d 0) 2 innerKind ≡ kind σ e
-  unfolding kind isInner isAcquire isRelease enters leaves
-  kind-enter a d p = rw (← q, a, p) (decided (eqb d 0) (λ y. rw y) (λ n. rw n))
+  -- That of an acquire of a lock is its operation at depth 0,
+  pub kind-enter : op ≡ 2 → object σ e < locks → (d : ℕ) → ownDepth σ e ≡ d
+      → cond (eqb d 0) 2 uncountedKind ≡ kind σ e
+  unfolding kind isUncounted hasAcquireOp hasReleaseOp
+  kind-enter a l d p =
+      rw (isAcquire-op σ e q, lt-ltb (object σ e) locks l, ← q, a, p)
+      (decided (eqb d 0) (λ y. rw y) (λ n. rw n))
 
   -- and that of a release at depth 1.
-  pub kind-leave : op ≡ 3 → (d : ℕ) → ownDepth σ e ≡ d → cond (eqb d 1) 3 innerKind ≡ kind σ e
-  unfolding kind isInner isAcquire isRelease enters leaves
-  kind-leave a d p = rw (← q, a, p) (decided (eqb d 1) (λ y. rw y) (λ n. rw n))
+  pub kind-leave : op ≡ 3 → object σ e < locks → (d : ℕ) → ownDepth σ e ≡ d
+      → cond (eqb d 1) 3 uncountedKind ≡ kind σ e
+  unfolding kind isUncounted hasAcquireOp hasReleaseOp
+  kind-leave a l d p =
+      rw (isRelease-op σ e q, lt-ltb (object σ e) locks l, ← q, a, p)
+      (decided (eqb d 1) (λ y. rw y) (λ n. rw n))
+
+  -- A start or a join has the kind of a record that does not count.
+  pub kind-task : 2 ≤ op → op < 4 → locks ≤ object σ e → uncountedKind ≡ kind σ e
+  unfolding kind isUncounted hasAcquireOp hasReleaseOp
+  kind-task h k l =
+      rw (isAcquire-task σ e q l, isRelease-task σ e q l, ← q)
+      (⊎-elim (λ (a : op ≡ 2). rw a)
+      (λ (d : op ≢ 2). let a : op ≡ 3 = omega arith in rw a) (equal? op 2))

@@ -2,121 +2,119 @@
 use Prim.Native.Nat.{ℕ, _-_, _≤_, _<_}
 use mathlib.Core.Path.{_≡_, _∙_}
 use mathlib.Core.Logic.{⊎-elim, _≢_}
-use mathlib.Core.Bool.{Bool, false, cond, not, _&&_, _||_}
+use mathlib.Core.Bool.{Bool, true, false, cond, not, _&&_, _||_}
 use native.Mathlib.Omega.{arith}
 use lib.ListN.{length}
 use lib.Dec.{T, eqb, ltb, ltb→lt, lt→ltb}
 use borrow.Author.Tests.{eq-eqb, ne-eqb, lt-ltb, le-ltb}
-use Rattle.model.specs.Trace.{Trace, locks, at, task, object, isRead, isWrite, enters, leaves}
-use Rattle.model.specs.Trace.{ownDepth, isAcquire}
+use Rattle.model.specs.Trace.{Trace, locks, syncObjects, at, task, object, isRead, isWrite}
+use Rattle.model.specs.Trace.{hasAcquireOp, hasReleaseOp, namesLock, enters, leaves}
+use Rattle.model.specs.Trace.{ownDepth, isAcquire, isRelease}
+use Rattle.model.specs.Tasks.{target, isStart, isJoin}
 use Rattle.model.specs.Relations.{holds, writer}
-use Rattle.model.specs.WellFormed.{isFree, fault, firstFault}
+use Rattle.model.specs.WellFormed.{isFree, isNew, isOver, joinsOwn, fault, firstFault}
 use Rattle.model.specs.Calls.Questions.{outcome}
 use Rattle.model.specs.Calls.Check.{checkEvents}
 use Rattle.laws.proofs.Tests.{decided, equal?, and-iff, is-true, is-false, not-false}
+use Rattle.laws.proofs.Trace.{enters-object}
+use Rattle.laws.proofs.Operations.{isRead-op, hasAcquireOp-op, hasReleaseOp-op, enters-op, leaves-op}
+use Rattle.laws.proofs.Operations.{isStart-op, isJoin-op}
 use Rattle.laws.proofs.Searches.{Earliest, firstFrom-earliest}
 
 -- ---- one event, by its operation
 
 module _ (σ : Trace) (e : ℕ) {op : ℕ} (q : op ≡ at σ e .op) where
-  -- The tests for an operation compare its number.
-  pub isRead-op : isRead σ e ≡ eqb op 0
-  unfolding isRead
-  isRead-op = rw q
+  -- The questions in terms of operation and object.
+  fault-op : fault σ e
+      ≡ cond ((eqb op 2 || eqb op 3) && not (ltb (object σ e) syncObjects)) 4
+      (cond ((eqb op 2 && ltb (object σ e) locks) && not (isFree σ e)) 5
+      (cond ((eqb op 3 && ltb (object σ e) locks) && not (holds σ e (task σ e) (object σ e))) 6
+      (cond (eqb op 0 && eqb (writer σ e) 0) 7
+      (cond ((eqb op 2 && not (ltb (object σ e) locks)) && not (isNew σ e)) 15
+      (cond ((eqb op 3 && not (ltb (object σ e) locks)) && eqb (target σ e) (task σ e) || isOver σ e) 16 0)))))
+  unfolding fault joinsOwn
+  fault-op =
+      rw (
+        hasAcquireOp-op σ e q,
+        hasReleaseOp-op σ e q,
+        enters-op σ e q,
+        leaves-op σ e q,
+        isStart-op σ e q,
+        isJoin-op σ e q,
+        isRead-op σ e q,
+      )
 
-  -- For a write.
-  pub isWrite-op : isWrite σ e ≡ eqb op 1
-  unfolding isWrite
-  isWrite-op = rw q
-
-  -- For an acquire, from whatever depth.
-  pub enters-op : enters σ e ≡ eqb op 2
-  unfolding enters
-  enters-op = rw q
-
-  -- For a release, to whatever depth.
-  pub leaves-op : leaves σ e ≡ eqb op 3
-  unfolding leaves
-  leaves-op = rw q
-
-  -- So an acquire's operation enters a lock,
-  pub enters-is : op ≡ 2 → T (enters σ e)
-  enters-is a = rw (enters-op, a) tt
-
-  -- a release's leaves one,
-  pub leaves-is : op ≡ 3 → T (leaves σ e)
-  leaves-is a = rw (leaves-op, a) tt
-
-  -- and a read's or a write's does neither.
-  pub accesses-is : op < 2 → (enters σ e ≡ false) × (leaves σ e ≡ false)
-  accesses-is h = (enters-op ∙ ne-eqb op 2 (omega arith), leaves-op ∙ ne-eqb op 3 (omega arith))
-
-  -- For an outer acquire also the depth.
-  pub isAcquire-op : isAcquire σ e ≡ (eqb op 2 && eqb (ownDepth σ e) 0)
-  unfolding isAcquire
-  isAcquire-op = rw enters-op
-
-  -- Another operation is no outer acquire.
-  pub isAcquire-none : op ≢ 2 → isAcquire σ e ≡ false
-  isAcquire-none d = rw (isAcquire-op, ne-eqb op 2 d)
-
-  -- 4: an acquire or release of what is no lock.
-  pub fault-lock : 2 ≤ op → op ≤ 3 → locks ≤ object σ e → fault σ e ≡ 4
-  unfolding fault
-  fault-lock a b l =
-      rw (enters-op, leaves-op, le-ltb (object σ e) locks l)
+  -- 4: an acquire or release record with an object that is too large.
+  pub fault-object : 2 ≤ op → op ≤ 3 → syncObjects ≤ object σ e → fault σ e ≡ 4
+  fault-object a b l =
+      fault-op ∙ rw (le-ltb (object σ e) syncObjects l)
       (⊎-elim (λ (z : op ≡ 2). rw (eq-eqb op 2 z))
       (λ (d : op ≢ 2). rw (ne-eqb op 2 d, eq-eqb op 3 (omega arith))) (equal? op 2))
 
-  -- 5: an acquire's lock is held by no other task.
-  pub fault-acquire : op ≡ 2 → object σ e < locks → fault σ e ≡ cond (isFree σ e) 0 5
-  unfolding fault
+  -- 5: an acquire's lock is held by no other task, and its own is not over.
+  pub fault-acquire : op ≡ 2 → object σ e < locks → fault σ e ≡ cond (isFree σ e) (cond (isOver σ e) 16 0) 5
   fault-acquire a l =
-      rw (enters-op, leaves-op, isRead-op, lt-ltb (object σ e) locks l, a)
+      fault-op ∙ rw (a, lt-ltb (object σ e) locks l, lt-ltb (object σ e) syncObjects (omega arith))
       (decided (isFree σ e) (λ y. rw y) (λ y. rw y))
 
-  -- 6: a release's lock is held by its task.
+  -- 6: a release's lock is held by its task, which is not over.
   pub fault-release : op ≡ 3 → object σ e < locks
-      → fault σ e ≡ cond (holds σ e (task σ e) (object σ e)) 0 6
-  unfolding fault
+      → fault σ e ≡ cond (holds σ e (task σ e) (object σ e)) (cond (isOver σ e) 16 0) 6
   fault-release a l =
-      rw (enters-op, leaves-op, isRead-op, lt-ltb (object σ e) locks l, a)
+      fault-op ∙ rw (a, lt-ltb (object σ e) locks l, lt-ltb (object σ e) syncObjects (omega arith))
       (decided (holds σ e (task σ e) (object σ e)) (λ y. rw y) (λ y. rw y))
 
-  -- A write has no fault.
-  pub fault-write : op ≡ 1 → fault σ e ≡ 0
-  unfolding fault
-  fault-write a = rw (enters-op, leaves-op, isRead-op, a)
+  -- 15: a start's task is new, and its own is not over.
+  pub fault-start : op ≡ 2 → locks ≤ object σ e → object σ e < syncObjects
+      → fault σ e ≡ cond (isNew σ e) (cond (isOver σ e) 16 0) 15
+  fault-start a l m =
+      fault-op ∙ rw (a, le-ltb (object σ e) locks l, lt-ltb (object σ e) syncObjects m)
+      (decided (isNew σ e) (λ y. rw y) (λ y. rw y))
 
-  -- 7: a read has a writer.
-  pub fault-read : op ≡ 0 → fault σ e ≡ cond (eqb (writer σ e) 0) 7 0
-  unfolding fault
-  fault-read a = rw (enters-op, leaves-op, isRead-op, a)
+  -- 16: a join is not of its own task, which is not over.
+  pub fault-join : op ≡ 3 → locks ≤ object σ e → object σ e < syncObjects
+      → fault σ e ≡ cond (eqb (target σ e) (task σ e)) 16 (cond (isOver σ e) 16 0)
+  fault-join a l m =
+      fault-op ∙ rw (a, le-ltb (object σ e) locks l, lt-ltb (object σ e) syncObjects m)
+      (decided (eqb (target σ e) (task σ e)) (λ y. rw y) (λ y. rw y))
+
+  -- A write's task is not over,
+  pub fault-write : op ≡ 1 → fault σ e ≡ cond (isOver σ e) 16 0
+  fault-write a = fault-op ∙ rw a
+
+  -- and 7: a read has a writer.
+  pub fault-read : op ≡ 0 → fault σ e ≡ cond (eqb (writer σ e) 0) 7 (cond (isOver σ e) 16 0)
+  fault-read a = fault-op ∙ rw a
+
+-- ---- one event, by its fault
+
+-- A question whose number is not given is passed, and a later one decides.
+pub passed : (b : Bool) (n : ℕ) {m : ℕ} (r : ℕ) → n ≢ m → cond b n r ≡ m → T (not b) × (r ≡ m)
+passed true n r d e = absurd (d e)
+passed false n r d e = (tt, e)
 
 module _ (σ : Trace) (e : ℕ) where
   -- Only an acquire has the fault 5, and only of a lock that is not free for it.
   pub fault-five : fault σ e ≡ 5 → T (enters σ e) × (object σ e < locks) × (isFree σ e ≡ false)
   unfolding fault
   fault-five q =
-      decided ((enters σ e || leaves σ e) && not (ltb (object σ e) locks))
-      (λ y. absurd (omega (arith, rw y at q)))
-      (λ n. decided (enters σ e && not (isFree σ e))
+      let big = (hasAcquireOp σ e || hasReleaseOp σ e) && not (ltb (object σ e) syncObjects) in
+      let four = passed big 4 _ (omega arith) q in
+      decided (enters σ e && not (isFree σ e))
       (λ y.
       let (a, taken) = and-iff (enters σ e) (not (isFree σ e)) .0 (rw y tt) in
-      (a, inside a n, is-false (isFree σ e) taken))
-      (λ m. absurd (later (leaves σ e && not (holds σ e (task σ e) (object σ e)))
-      (isRead σ e && eqb (writer σ e) 0) (rw (n, m) at q))))
+      (a, enters-object σ e a, is-false (isFree σ e) taken))
+      (λ n. absurd (later (leaves σ e && not (holds σ e (task σ e) (object σ e)))
+      (isRead σ e && eqb (writer σ e) 0) (isStart σ e && not (isNew σ e)) (joinsOwn σ e || isOver σ e)
+      (rw n at (four .1))))
     where
-      inside : T (enters σ e) → ((enters σ e || leaves σ e) && not (ltb (object σ e) locks)) ≡ false
-          → object σ e < locks
-      inside a n =
-          let y = not-false (ltb (object σ e) locks) (rw (is-true (enters σ e) a) at n) in
-          ltb→lt (object σ e) locks (rw y tt)
-
-      later : (b c : Bool) → _≡_ {A = ℕ} (cond b 6 (cond c 7 0)) 5 → ⊥
-      later b c r =
-          decided b (λ y. absurd (omega (arith, rw y at r)))
-          (λ n. decided c (λ y. absurd (omega (arith, rw (n, y) at r))) (λ m. omega (arith, rw (n, m) at r)))
+      -- The later questions have other numbers.
+      later : (a b c d : Bool) → _≡_ {A = ℕ} (cond a 6 (cond b 7 (cond c 15 (cond d 16 0)))) 5 → ⊥
+      later a b c d r =
+          let six = passed a 6 _ (omega arith) r in
+          let seven = passed b 7 _ (omega arith) (six .1) in
+          let fifteen = passed c 15 _ (omega arith) (seven .1) in
+          omega (arith, passed d 16 0 (omega arith) (fifteen .1) .1)
 
 -- ---- the event that decides
 

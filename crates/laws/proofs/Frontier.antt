@@ -8,14 +8,14 @@ use native.Mathlib.Omega.{arith}
 use lib.Dec.{T, ltb}
 use lib.ListN.{length, getD, length-set}
 use lib.Seq.{getD-set-same, getD-set-other}
-use borrow.Author.Tests.{ltb-true, ltb-false}
+use borrow.Author.Tests.{ltb-true, ltb-false, le-ltb}
 use Rattle.model.specs.Trace.{Trace, tasks, task}
-use Rattle.model.specs.Relations.{predecessor}
 use Rattle.model.specs.Closed.{Closed}
+use Rattle.laws.specs.Walked.{previous}
 use Rattle.laws.specs.Frontier.{Frontier, Entails, raised}
 use Rattle.laws.proofs.Tests.{decided, equal?}
 use Rattle.laws.proofs.Trace.{sameTask-iff}
-use Rattle.laws.proofs.Relations.{predecessor-latest, predecessor-below}
+use Rattle.laws.proofs.Relations.{previous-latest, previous-below, predecessor-previous}
 use Rattle.laws.proofs.Closed.{closed-predecessor}
 
 -- ---- raising
@@ -51,6 +51,10 @@ module _ (want : List ℕ) (t e : ℕ) (l : t < length want) where
   pub raised-length : length (raised want t e) ≡ length want
   raised-length =
       decided (ltb (getD want t 0) e) (λ y. rw y (length-set want t e)) (λ n. rw n)
+
+-- Event 0 raises nothing.
+pub raised-zero : (want : List ℕ) (t : ℕ) → raised want t 0 ≡ want
+raised-zero want t = rw (le-ltb (getD want t 0) 0 (omega arith))
 
 module _ (σ : Trace) where
   -- A frontier that is raised to an event of the task is one.
@@ -92,10 +96,12 @@ module _ (σ : Trace) where
       go (suc n) f e h i k q b =
           ⊎-elim (λ (s : e ≡ f). rw s h)
           (λ d.
-          let p = predecessor σ f in
-          let last = predecessor-latest σ f in
+          let p = previous σ f in
+          let last = previous-latest σ f in
           let m : e ≤ p = last .latest e (omega arith) (sameTask-iff σ f e .1 (sym q)) in
           let z : p ≢ 0 = omega arith in
           let same : task σ f ≡ task σ p = sameTask-iff σ f p .0 (last .passes z) in
-          go n p e (closed-predecessor σ c f h z) i m (q ∙ same) (omega (arith, predecessor-below σ f)))
+          let here : v p = rw (predecessor-previous σ f z) at (closed-predecessor σ c f h
+          (rw (predecessor-previous σ f z) z)) in
+          go n p e here i m (q ∙ same) (omega (arith, previous-below σ f)))
           (equal? e f)

@@ -12,9 +12,9 @@ use lib.ListN.{length, getD, set, length-set}
 use lib.Seq.{getD-set-same, getD-set-other}
 use borrow.Author.Tests.{ne-eqb, eqb-true}
 use Rattle.model.specs.Lists.{lastBefore, firstFrom}
-use Rattle.model.specs.Trace.{Trace, object, isAcquire, isRelease, isInner}
+use Rattle.model.specs.Trace.{Trace, object, isAcquire, isRelease}
 use Rattle.model.specs.Relations.{releaseOf, acquireOf, matching}
-use Rattle.laws.specs.EventKinds.{marked}
+use Rattle.laws.specs.EventKinds.{isUncounted, marked}
 use Rattle.laws.specs.Walked.{matchingBefore, Matches}
 use Rattle.laws.proofs.Tests.{parts, decided, is-true, equal?}
 use Rattle.laws.proofs.Searches.{firstFrom-more}
@@ -22,7 +22,7 @@ use Rattle.laws.proofs.Relations.{releases}
 use Rattle.laws.proofs.WellFormed.{WellFormed}
 use Rattle.laws.proofs.OpenAcquires.{opened-acquire, opened-match, opened-released, opened-unreleased}
 use Rattle.laws.proofs.OpenAcquires.{other-released}
-use Rattle.laws.proofs.EventKinds.{acquire-inner, release-inner}
+use Rattle.laws.proofs.EventKinds.{acquire-uncounted, release-uncounted}
 
 module _ (σ : Trace) where
   -- One event more shows a match where there was none.
@@ -62,7 +62,7 @@ module _ (σ : Trace) where
 
   -- An event that is no outer release gets no match yet, and an inner one its mark.
   pub matches-keep : (e : ℕ) (table : List ℕ) → Matches σ e table → isRelease σ e ≡ false → e < length table
-      → Matches σ (suc e) (set table e (cond (isInner σ e) e 0))
+      → Matches σ (suc e) (set table e (cond (isUncounted σ e) e 0))
   unfolding matchingBefore
   matches-keep e table z n l = record { at = λ f h k. ⊎-elim (new f) (old f h k) (equal? f e) }
     where
@@ -70,19 +70,19 @@ module _ (σ : Trace) where
       absent f p = let r : T (isRelease σ e) = search parts in rw n at r
 
       new : (f : ℕ) → f ≡ e
-          → getD (set table e (cond (isInner σ e) e 0)) f 0
-          ≡ cond (isInner σ f) f (matchingBefore σ (suc e) f)
+          → getD (set table e (cond (isUncounted σ e) e 0)) f 0
+          ≡ cond (isUncounted σ f) f (matchingBefore σ (suc e) f)
       new f q =
           let none : suc e - suc e ≡ 0 = omega arith in
-          rw (q, getD-set-same table e (cond (isInner σ e) e 0) 0 l, n, none)
+          rw (q, getD-set-same table e (cond (isUncounted σ e) e 0) 0 l, n, none)
           (decided (isAcquire σ e) (λ y. rw y) (λ y. rw y))
 
       old : (f : ℕ) → 1 ≤ f → f < suc e → f ≢ e
-          → getD (set table e (cond (isInner σ e) e 0)) f 0
-          ≡ cond (isInner σ f) f (matchingBefore σ (suc e) f)
+          → getD (set table e (cond (isUncounted σ e) e 0)) f 0
+          ≡ cond (isUncounted σ f) f (matchingBefore σ (suc e) f)
       old f h k d =
-          getD-set-other table e f (cond (isInner σ e) e 0) 0 d ∙ z .at f h (omega arith)
-          ∙ ap (λ (m : ℕ). cond (isInner σ f) f m)
+          getD-set-other table e f (cond (isUncounted σ e) e 0) 0 d ∙ z .at f h (omega arith)
+          ∙ ap (λ (m : ℕ). cond (isUncounted σ f) f m)
           (sym (matching-keep e f (omega arith) (λ a p. absurd (absent f p))))
 
   -- An outer release and the latest outer acquire of its lock are each other's match.
@@ -97,23 +97,23 @@ module _ (σ : Trace) where
       at-a = rw q (opened-acquire σ ok e i t)
 
       new : (f : ℕ) → f ≡ e
-          → getD (set (set table a e) e a) f 0 ≡ cond (isInner σ f) f (matchingBefore σ (suc e) f)
+          → getD (set (set table a e) e a) f 0 ≡ cond (isUncounted σ f) f (matchingBefore σ (suc e) f)
       new f r =
           let here : e < length (set table a e) = rw (length-set table a e) l in
           rw (
             r,
             getD-set-same (set table a e) e a 0 here,
-            release-inner σ e t,
+            release-uncounted σ e t,
             n,
             is-true (isRelease σ e) t,
           )
           (q ∙ opened-match σ ok e i t)
 
       old : (f : ℕ) → 1 ≤ f → f < suc e → f ≢ e
-          → getD (set (set table a e) e a) f 0 ≡ cond (isInner σ f) f (matchingBefore σ (suc e) f)
+          → getD (set (set table a e) e a) f 0 ≡ cond (isUncounted σ f) f (matchingBefore σ (suc e) f)
       old f h k d = getD-set-other (set table a e) e f a 0 d ∙ ⊎-elim own other (equal? f a)
         where
-          own : f ≡ a → getD (set table a e) f 0 ≡ cond (isInner σ f) f (matchingBefore σ (suc e) f)
+          own : f ≡ a → getD (set table a e) f 0 ≡ cond (isUncounted σ f) f (matchingBefore σ (suc e) f)
           own r =
               let small : a < length table = omega (arith, at-a) in
               let none : firstFrom (suc a) (e - suc a) (releases σ a) ≡ 0 = rw q
@@ -122,17 +122,17 @@ module _ (σ : Trace) where
               rw (
                 r,
                 getD-set-same table a e 0 small,
-                acquire-inner σ a (at-a .2),
+                acquire-uncounted σ a (at-a .2),
                 matching-more e a (at-a .1),
                 is-true (isAcquire σ a) (at-a .2),
                 none,
                 is-true (releases σ a e) gives,
               )
 
-          other : f ≢ a → getD (set table a e) f 0 ≡ cond (isInner σ f) f (matchingBefore σ (suc e) f)
+          other : f ≢ a → getD (set table a e) f 0 ≡ cond (isUncounted σ f) f (matchingBefore σ (suc e) f)
           other x =
               getD-set-other table a f e 0 x ∙ z .at f h (omega arith)
-              ∙ ap (λ (m : ℕ). cond (isInner σ f) f m)
+              ∙ ap (λ (m : ℕ). cond (isUncounted σ f) f m)
               (sym (matching-keep e f (omega arith)
               (other-released σ ok e i t f (omega arith) (λ y. x (y ∙ sym q)))))
 

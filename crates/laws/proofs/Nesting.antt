@@ -18,8 +18,8 @@ use Rattle.laws.proofs.Trace.{sameTask-iff, sameObject-iff, acquire-eve
 use Rattle.laws.proofs.Relations.{releases, matching-earliest}
 use Rattle.laws.proofs.Depth.{Section, Moved, stays, deeper, back, holds-iff, depth-start, depth-moved}
 use Rattle.laws.proofs.Depth.{depth-opens, depth-falls, depth-enter, depth-leave, own-depth}
-use Rattle.laws.proofs.Depth.{enters-leaves}
 use Rattle.laws.proofs.Depth.{isAcquire-iff, isRelease-iff}
+use Rattle.laws.proofs.Trace.{enters-leaves}
 use Rattle.laws.proofs.WellFormed.{WellFormed, acquire-free, leave-held}
 
 -- The acquires of lock l by task t, from whatever depth.

@@ -1,7 +1,7 @@
 -- A frontier at rest, with nothing more to reach, is that of the smallest closed set: what a closed set has
 -- of it, that it is closed, and that it is the closure of the set that it began with. Assumes nothing.
 use Prim.Native.Nat.{ℕ, _≤_, _<_}
-use mathlib.Core.Path.{_≡_, sym, _∙_}
+use mathlib.Core.Path.{_≡_, refl, sym, _∙_}
 use mathlib.Core.Logic.{_≢_}
 use mathlib.Core.Bool.{Bool}
 use mathlib.Core.List.{List}
@@ -10,24 +10,16 @@ use lib.Dec.{T, leb, leb→le, le→leb}
 use lib.ListN.{length, getD}
 use lib.Seq.{ext-getD}
 use Rattle.model.specs.Trace.{Trace, tasks, task, object}
-use Rattle.model.specs.Relations.{predecessor, writer, matching}
+use Rattle.model.specs.Relations.{predecessor, writer, joined, matching}
 use Rattle.model.specs.EventSet.{EventSet, has}
-use Rattle.model.specs.Closed.{Direct, predecessor-is, writer-is, Again, Closed}
+use Rattle.model.specs.Closed.{Direct, predecessor-is, writer-is, joined-is, Again, Closed}
 use Rattle.model.specs.Closure.{closure}
-use Rattle.laws.specs.Frontier.{
-  Frontier,
-  Behind,
-  Visited,
-  Advancing,
-  Settled,
-  Entails,
-  raised,
-  Advanced,
-}
+use Rattle.laws.specs.Frontier.{Frontier, Behind, Visited, Advancing, Settled, Entails, raised}
+use Rattle.laws.specs.Frontier.{Advanced}
 use Rattle.laws.proofs.Tests.{T-ext}
-use Rattle.laws.proofs.Trace.{sameTask-iff, sameObject-iff}
-use Rattle.laws.proofs.Relations.{predecessor-latest, predecessor-below, writer-below, matching-below}
-use Rattle.laws.proofs.Closed.{closed-writer}
+use Rattle.laws.proofs.Trace.{sameObject-iff}
+use Rattle.laws.proofs.Relations.{matching-below}
+use Rattle.laws.proofs.Closed.{direct-below}
 use Rattle.laws.proofs.EventSet.{Within, has-lt, Sized}
 use Rattle.laws.proofs.Closure.{closure-closed, closure-least}
 use Rattle.laws.proofs.Frontier.{closed-earlier, raised-entails}
@@ -37,7 +29,8 @@ module _ (σ : Trace) (ok : WellFormed σ) where
   -- ---- what a closed set has
 
   -- A closed set with the wanted events has all that is behind the frontier.
-  behind-in : (front want : List ℕ) → Frontier σ want → ((u : ℕ) → u < tasks → getD front u 0 ≤ getD want u 0)
+  pub behind-in : (front want : List ℕ) → Frontier σ want
+      → ((u : ℕ) → u < tasks → getD front u 0 ≤ getD want u 0)
       → (v : ℕ → Bool) → Closed σ (λ x. T (v x))
       → ((u : ℕ) → u < tasks → getD want u 0 ≢ 0 → T (v (getD want u 0))) → (e : ℕ) → Behind σ front e → T
       (v e)
@@ -51,12 +44,27 @@ module _ (σ : Trace) (ok : WellFormed σ) where
   module _ (front want latest : List ℕ) (t old f : ℕ) (z : Advancing σ front want latest t old f)
       (given : List ℕ)
       (entails : Entails σ given want) where
-    -- The writer of an event behind the frontier follows from it.
+    -- What an event behind the frontier needs by itself follows from it,
+    pub direct-entailed : Behind σ front f → (x : ℕ) → Direct σ f x → x ≢ 0 → (u : ℕ) → u < length want
+        → Entails σ given (raised want u x)
+    direct-entailed b x n d u l =
+        raised-entails σ given want u x l entails
+        (λ v c h. c .direct f x (behind-in front want (z .want-ok) (z .ahead) v c h f b) n d)
+
+    -- so its writer,
     pub writer-entailed : Behind σ front f → writer σ f ≢ 0 → (u : ℕ) → u < length want
         → Entails σ given (raised want u (writer σ f))
-    writer-entailed b d u l =
-        raised-entails σ given want u (writer σ f) l entails
-        (λ v c h. closed-writer σ c f (behind-in front want (z .want-ok) (z .ahead) v c h f b) d)
+    writer-entailed b d = direct-entailed b (writer σ f) (writer-is refl) d
+
+    -- what it joins,
+    pub joined-entailed : Behind σ front f → joined σ f ≢ 0 → (u : ℕ) → u < length want
+        → Entails σ given (raised want u (joined σ f))
+    joined-entailed b d = direct-entailed b (joined σ f) (joined-is refl) d
+
+    -- and its predecessor, be it its task's start.
+    pub predecessor-entailed : Behind σ front f → predecessor σ f ≢ 0 → (u : ℕ) → u < length want
+        → Entails σ given (raised want u (predecessor σ f))
+    predecessor-entailed b d = direct-entailed b (predecessor σ f) (predecessor-is refl) d
 
     -- So does the match of the earlier of two acquires of one lock.
     pub match-entailed : (a b : ℕ) → Again σ a b → Behind σ front a → Behind σ front b → (u : ℕ) → u <
@@ -91,19 +99,11 @@ module _ (σ : Trace) (ok : WellFormed σ) where
       visited e b = record { behind = b; passed = λ _ h. h }
 
       direct : (e x : ℕ) → Behind σ front e → Direct σ e x → x ≢ 0 → Behind σ front x
-      direct e x b (predecessor-is q) d =
-          let n : predecessor σ e ≢ 0 = λ s. d (q ∙ s) in
-          let same : task σ e ≡ task σ (predecessor σ e) =
-          sameTask-iff σ e (predecessor σ e) .0 (predecessor-latest σ e .passes n) in
-          let low = predecessor-below σ e in
-          rw q (record {
-            event = omega (arith, b .event);
-            within = rw (← same) (omega (arith, b .within));
-          })
-      direct e x b (writer-is q) d =
-          let n : writer σ e ≢ 0 = λ s. d (q ∙ s) in
-          let low = writer-below σ e in
-          rw q (record { event = omega (arith, b .event); within = z .writer-wanted e (visited e b) n })
+      direct e x b n d =
+          record {
+            event = omega (arith, b .event, direct-below σ e x n);
+            within = z .direct-wanted e x (visited e b) n d;
+          }
 
       matches : (a f : ℕ) → Behind σ front a → Behind σ front f → Again σ a f → matching σ a ≢ 0
           → Behind σ front (matching σ a)

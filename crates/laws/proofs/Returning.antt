@@ -24,7 +24,9 @@ use Rattle.laws.proofs.Lists.{from-iff}
 use Rattle.laws.proofs.Filters.{each-none}
 use Rattle.laws.proofs.Bits.{hasBit-none, hasBit-or, hasBit-bit, apart-iff, apart-or}
 use Rattle.laws.proofs.Trace.{sameTask-iff}
-use Rattle.laws.proofs.Relations.{predecessor-below, predecessor-own, predecessor-latest}
+use Rattle.laws.proofs.Relations.{previous-latest, previous-own, predecessor-previous}
+use Rattle.laws.proofs.Closed.{closed-predecessor}
+use Rattle.laws.specs.Walked.{previous}
 use Rattle.laws.proofs.WellFormed.{WellFormed, lock-lt}
 use Rattle.laws.proofs.EventSet.{In, Within}
 use Rattle.laws.proofs.Frontier.{closed-earlier}
@@ -149,16 +151,16 @@ module _ (σ : Trace) where
 
           new : x ≡ e → In (closureBefore σ (p ++ f ∷ [])) (predecessor σ x)
           new s =
-              let own = predecessor-latest σ f in
-              let at-least : e ≤ predecessor σ f = own .latest e (omega arith) (sameTask-iff σ f e .1 (sym
-              q)) in
-              let z : predecessor σ f ≢ 0 = omega arith in
-              let d′ : predecessor σ e ≢ 0 = rw s at d in
-              rw s (closed-earlier σ (In (closureBefore σ (p ++ f ∷ []))) (before-closed σ (p ++ f ∷ []))
-              (predecessor σ f) (predecessor σ e)
-              (before-contains σ (p ++ f ∷ []) inside f (Memᴰ·append-right p (List·Memᴰ·head refl)) z)
-              (omega arith) (omega (arith, predecessor-below σ e))
-              (predecessor-own σ e d′ ∙ q ∙ sym (predecessor-own σ f z)))
+              let own = previous-latest σ f in
+              let at-least : e ≤ previous σ f = own .latest e (omega arith) (sameTask-iff σ f e .1 (sym q)) in
+              let z : previous σ f ≢ 0 = omega arith in
+              let r = predecessor-previous σ f z in
+              let closed = before-closed σ (p ++ f ∷ []) in
+              let last = rw r at (before-contains σ (p ++ f ∷ []) inside f
+              (Memᴰ·append-right p (List·Memᴰ·head refl)) (rw r z)) in
+              let here = closed-earlier σ (In (closureBefore σ (p ++ f ∷ []))) closed (previous σ f) e last l
+              at-least (q ∙ sym (previous-own σ f z)) in
+              rw s (closed-predecessor σ closed e here (rw s at d))
 
   -- Where the closure before an event has one of the chain's, no later event of its task makes a deadlock.
   pub not-deadlock-later : (p : List ℕ) (e f x : ℕ) → Inside σ (p ++ f ∷ []) → 1 ≤ e → e < f
@@ -172,7 +174,7 @@ module _ (σ : Trace) where
   -- So the frontier before an earlier event of the task may be extended to that before a later one.
   pub before-again : WellFormed σ → (p front latest : List ℕ) (d e : ℕ) (front′ latest′ : List ℕ)
       → Before σ (p ++ d ∷ []) front latest → 1 ≤ d → d < e → task σ d ≡ task σ e → Inside σ (p ++ e ∷ [])
-      → Advanced σ (raised front (task σ e) (predecessor σ e)) front′ latest′
+      → Advanced σ (raised front (task σ (predecessor σ e)) (predecessor σ e)) front′ latest′
       → Before σ (p ++ e ∷ []) front′ latest′
   before-again ok p front latest d e front′ latest′ z h k q inside a =
       let high = inside e (Memᴰ·append-right p (List·Memᴰ·head refl)) in

@@ -21,7 +21,7 @@ module _ (σ : Trace) (front want latest : List ℕ) where
     want-ok = z .want-ok;
     ahead = ahead;
     latest-long = z .latest-long;
-    writer-wanted = λ e v. z .writer-wanted e (visited e v);
+    direct-wanted = λ e x v. z .direct-wanted e x (visited e v);
     latest-visited = λ x b d. let (v, a, q) = z .latest-visited x b d in (later _ v, a, q);
     latest-most = λ e v. z .latest-most e (visited e v);
     match-wanted = λ e v. z .match-wanted e (visited e v);
@@ -79,7 +79,7 @@ module _ (σ : Trace) (front want latest : List ℕ) where
     want-ok = z .want-ok;
     ahead = z .ahead;
     latest-long = z .latest-long;
-    writer-wanted = λ e v. z .writer-wanted e (all e (v .behind));
+    direct-wanted = λ e x v. z .direct-wanted e x (all e (v .behind));
     latest-visited = λ x b d.
         let (v, a, q) = z .latest-visited x b d in (record { behind = v .behind; passed = λ _ h. h }, a, q);
     latest-most = λ e v. z .latest-most e (all e (v .behind));
@@ -97,7 +97,7 @@ module _ (σ : Trace) (front want latest : List ℕ) where
     want-ok = w;
     ahead = λ u l. rw (zero-at u) (omega arith);
     latest-long = rw q refl;
-    writer-wanted = λ e v d. absurd (nothing e v);
+    direct-wanted = λ e x v r d. absurd (nothing e v);
     latest-visited = λ l b d. absurd (d (rw q (zeros locks l)));
     latest-most = λ e v a. absurd (nothing e v);
     match-wanted = λ e v a k. absurd (nothing e v);

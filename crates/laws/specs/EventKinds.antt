@@ -1,18 +1,23 @@
--- How tables tell inner acquires and releases, which change no holder and have no match, from outer ones: by
--- a kind of their own, or by a mark among the matches. Laws are in proofs/EventKinds and proofs/Marks.
+-- How tables tell the records of acquires and releases that do not count as such (inner ones, starts and
+-- joins), which change no holder and have no match, from those that do: by a kind of their own, or by a mark
+-- among the matches. Laws are in proofs/EventKinds and proofs/Marks.
 use Prim.Native.Nat.{ℕ}
-use mathlib.Core.Bool.{cond}
-use Rattle.model.specs.Trace.{Trace, at, isInner}
+use mathlib.Core.Bool.{Bool, cond, not, _&&_, _||_}
+use Rattle.model.specs.Trace.{Trace, at, hasAcquireOp, hasReleaseOp, isAcquire, isRelease}
 use Rattle.model.specs.Relations.{matching}
 
--- The kind of an inner acquire or release, which is no operation's number.
-abbrev pub innerKind : ℕ
-innerKind = 4
+-- The record of an acquire or a release that is no outer one: an inner one, a start or a join.
+unfoldable pub isUncounted : Trace → ℕ → Bool
+isUncounted σ e = (hasAcquireOp σ e && not (isAcquire σ e)) || (hasReleaseOp σ e && not (isRelease σ e))
 
--- An event's kind: its operation, unless it is an inner one.
+-- The kind of such a record, which is no operation's number.
+abbrev pub uncountedKind : ℕ
+uncountedKind = 4
+
+-- An event's kind: its operation, unless it is such a record.
 unfoldable pub kind : Trace → ℕ → ℕ
-kind σ e = cond (isInner σ e) innerKind (at σ e .op)
+kind σ e = cond (isUncounted σ e) uncountedKind (at σ e .op)
 
--- An event's match, but that an inner one has its own number, which is no match.
+-- An event's match, but that such a record has its own number, which is no match.
 unfoldable pub marked : Trace → ℕ → ℕ
-marked σ e = cond (isInner σ e) e (matching σ e)
+marked σ e = cond (isUncounted σ e) e (matching σ e)

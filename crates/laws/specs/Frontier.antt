@@ -1,17 +1,17 @@
--- Closures as frontiers: a set that has the predecessors of its events is given by the latest event that it
--- has of each task. How a frontier advances to a closure is stated here, for the contracts of inner
--- functions.
+-- Closures as frontiers: a set that has all earlier events of a task with each event of it is given by the
+-- latest event that it has of each task. How a frontier advances to a closure is stated here, for the
+-- contracts of inner functions.
 use Prim.Native.Nat.{ℕ, _≤_, _<_}
 use mathlib.Core.Path.{_≡_}
 use mathlib.Core.Logic.{_≢_}
 use mathlib.Core.Bool.{Bool, cond}
 use mathlib.Core.List.{List}
-use lib.Dec.{T, leb, ltb}
+use lib.Dec.{T, eqb, leb, ltb}
 use lib.ListN.{length, getD, set}
 use Rattle.model.specs.Trace.{Trace, tasks, locks, task, object, isAcquire}
-use Rattle.model.specs.Relations.{writer, matching}
+use Rattle.model.specs.Relations.{predecessor, writer, joined, matching}
 use Rattle.model.specs.EventSet.{has}
-use Rattle.model.specs.Closed.{Closed}
+use Rattle.model.specs.Closed.{Direct, Closed}
 use Rattle.model.specs.Pattern.{closureBefore}
 
 -- The table has the event of each task, or 0.
@@ -37,8 +37,8 @@ pub record Advancing (σ : Trace) (front want latest : List ℕ) (t old f : ℕ)
   pub want-ok : Frontier σ want
   pub ahead : (u : ℕ) → u < tasks → getD front u 0 ≤ getD want u 0
   pub latest-long : length latest ≡ locks
-  pub writer-wanted : (e : ℕ) → Visited σ front t old f e → writer σ e ≢ 0
-      → writer σ e ≤ getD want (task σ (writer σ e)) 0
+  pub direct-wanted : (e x : ℕ) → Visited σ front t old f e → Direct σ e x → x ≢ 0
+      → x ≤ getD want (task σ x) 0
   pub latest-visited : (l : ℕ) → l < locks → getD latest l 0 ≢ 0
       → Visited σ front t old f (getD latest l 0) × T (isAcquire σ (getD latest l 0))
       × (object σ (getD latest l 0) ≡ l)
@@ -60,6 +60,15 @@ pub record Entails (σ : Trace) (given want : List ℕ) : Type 0 where
 -- lock.
 abbrev pub raised : List ℕ → ℕ → ℕ → List ℕ
 raised want t e = cond (ltb (getD want t 0) e) (set want t e) want
+
+-- The frontier with event x of whatever task, where not 0.
+abbrev pub wanted : Trace → List ℕ → ℕ → List ℕ
+wanted σ want x = cond (eqb x 0) want (raised want (task σ x) x)
+
+-- The frontier with what event f needs by itself: writer, what it joins, and predecessor, which for its
+-- task's first event is the start, of another task.
+unfoldable pub wantedDirect : Trace → List ℕ → ℕ → List ℕ
+wantedDirect σ want f = wanted σ (wanted σ (wanted σ want (writer σ f)) (joined σ f)) (predecessor σ f)
 
 -- The frontier is that of the smallest closed set that has the given one's events.
 pub record Advanced (σ : Trace) (given front latest : List ℕ) : Type 0 where

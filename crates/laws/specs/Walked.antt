@@ -8,9 +8,14 @@ use mathlib.Core.List.{List}
 use lib.Dec.{eqb}
 use lib.ListN.{length, getD}
 use Rattle.model.specs.Lists.{lastBefore, firstFrom, hasBit}
-use Rattle.model.specs.Trace.{Trace, tasks, locks, sameTask, sameObject, depth, isAcquire, isRelease}
-use Rattle.model.specs.Trace.{isInner}
-use Rattle.model.specs.Relations.{acquireOf, holds}
+use Rattle.model.specs.Trace.{Trace, tasks, locks, task, sameTask, sameObject, depth, isAcquire, isRelease}
+use Rattle.model.specs.Relations.{latestOf, acquireOf, holds}
+use Rattle.laws.specs.EventKinds.{isUncounted}
+
+-- Thread order alone: the latest earlier event of the event's task, or 0. The predecessor is this, or where
+-- it is 0 the task's start.
+abbrev pub previous : Trace → ℕ → ℕ
+previous σ e = latestOf σ e (task σ e)
 
 -- Lock l has task h - 1 at depth d as its holder, or none where h and d are 0 (02: the record kept for each
 -- lock is holder and depth).
@@ -67,7 +72,7 @@ matchingBefore σ e f =
     (firstFrom (suc f) (e - suc f) (λ g. isRelease σ g && sameObject σ f g && sameTask σ f g))
     (cond (isRelease σ f) (acquireOf σ f) 0)
 
--- For each event before e its match, as far as these events show it; an inner event has its own number, which
--- is no match.
+-- For each event before e its match, as far as these events show it; a record that does not count has its own
+-- number, which is no match.
 pub record Matches (σ : Trace) (e : ℕ) (table : List ℕ) : Type 0 where
-  pub at : (f : ℕ) → 1 ≤ f → f < e → getD table f 0 ≡ cond (isInner σ f) f (matchingBefore σ e f)
+  pub at : (f : ℕ) → 1 ≤ f → f < e → getD table f 0 ≡ cond (isUncounted σ f) f (matchingBefore σ e f)

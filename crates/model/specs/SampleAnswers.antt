@@ -45,7 +45,7 @@ pub record SampleAnswers : Type 0 where
   pub whole-set : closeOut rowA (0x08 ∷ []) ≡ 0x08 ∷ []
   -- The entries for C.
   pub list-bytes : listEntry rowF 3 8 ≡ 8
-  pub list-refused : listEntry (0x10 ∷ 0x01 ∷ 0x80 ∷ 0x40 ∷ []) 0 0 ≡ 2 * (65536 * 4 + 1) + 1
+  pub list-refused : listEntry (0x10 ∷ 0x01 ∷ 0x80 ∷ 0x40 ∷ []) 0 0 ≡ 2 * (65536 * 15 + 1) + 1
   pub verdict-deadlock : verdictEntry rowA (encode (2 ∷ 6 ∷ [])) ≡ 2
   pub verdict-not : verdictEntry rowD (encode (2 ∷ 8 ∷ [])) ≡ 0
   pub verdict-refused : verdictEntry rowA (encode (6 ∷ 2 ∷ [])) ≡ 2 * (65536 * 10 + 0) + 1

@@ -40,16 +40,16 @@ pub record SampleQuestions : Type 0 where
   pub two : check (0x20 ∷ 0x00 ∷ []) ≡ outcome 2 0
   pub two-first : check (0x20 ∷ 0x00 ∷ 0x00 ∷ []) ≡ outcome 2 0
   pub three-odd : check (0x10 ∷ 0x00 ∷ 0x00 ∷ []) ≡ outcome 3 0
-  -- 4 to 7: a lock that is too large is no held one, another task's lock, and the earliest event.
-  pub four-first : check (0x10 ∷ 0x01 ∷ 0xC0 ∷ 0x40 ∷ []) ≡ outcome 4 1
+  -- 4 to 7: an object that is too large is no held lock, another task's lock, and the earliest event.
+  pub four-first : check (0x10 ∷ 0x01 ∷ 0xC0 ∷ 0x50 ∷ []) ≡ outcome 4 1
   pub five-other : check (0x10 ∷ 0x02 ∷ 0x80 ∷ 0x00 ∷ 0x84 ∷ 0x00 ∷ []) ≡ outcome 5 2
   pub six : check (0x10 ∷ 0x02 ∷ 0x80 ∷ 0x00 ∷ 0xC4 ∷ 0x00 ∷ []) ≡ outcome 6 2
+  pub earliest : check (0x10 ∷ 0x02 ∷ 0xC0 ∷ 0x00 ∷ 0x80 ∷ 0x50 ∷ []) ≡ outcome 6 1
   pub seven-other : check (0x10 ∷ 0x02 ∷ 0x40 ∷ 0x01 ∷ 0x00 ∷ 0x00 ∷ []) ≡ outcome 7 2
-  pub earliest : check (0x10 ∷ 0x02 ∷ 0x00 ∷ 0x00 ∷ 0x80 ∷ 0x40 ∷ []) ≡ outcome 7 1
   -- 8, which comes after the recording's questions and before 13.
   pub eight-low : list rowA 1 99 ≡ unlisted 8 0
   pub eight-high : list rowA 17 0 ≡ unlisted 8 0
-  pub eight-last : list (0x10 ∷ 0x01 ∷ 0x80 ∷ 0x40 ∷ []) 1 0 ≡ unlisted 4 1
+  pub eight-last : list (0x10 ∷ 0x01 ∷ 0x80 ∷ 0x40 ∷ []) 1 0 ≡ unlisted 15 1
   -- 9, for 0 and past n.
   pub nine-zero : relations rowA 0
       ≡ record { refusal = 9; event = 0; held = 0; locks = 0; matching = 0; writer = 0; predecessor = 0 }

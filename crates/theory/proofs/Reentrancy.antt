@@ -6,20 +6,22 @@ use mathlib.Core.Logic.{_↔_, _≢_}
 use mathlib.Core.Bool.{true, false}
 use mathlib.Core.List.{List}
 use lib.Dec.{T, T-not, not-T, eqb→eq}
-use Rattle.model.specs.Trace.{Trace, locks, at, isEvent, object, enters, ownDepth, isInner}
+use Rattle.model.specs.Trace.{Trace, locks, at, isEvent, object, hasAcquireOp, enters, ownDepth, isInner}
 use Rattle.model.specs.Recording.{trace}
 use Rattle.model.specs.Relations.{holds, predecessor}
 use Rattle.model.specs.WellFormed.{isFree, fault}
-use Rattle.model.specs.Closed.{Direct, predecessor-is, writer-is}
+use Rattle.model.specs.Closed.{Direct, predecessor-is, writer-is, joined-is}
 use Rattle.model.specs.Calls.Check.{check}
-use Rattle.laws.proofs.Tests.{is-true, is-false, and-r}
+use Rattle.laws.proofs.Tests.{is-false, and-l, and-r}
 use Rattle.laws.proofs.Lists.{all-iff}
 use Rattle.laws.proofs.Depth.{isAcquire-iff}
-use Rattle.laws.proofs.Relations.{writer-none, matching-none, held-bit}
+use Rattle.laws.proofs.Relations.{writer-none, joined-none, matching-none, held-bit}
 use Rattle.laws.proofs.Holds.{isFree-iff, isFree-fails}
 use Rattle.laws.proofs.Faults.{fault-acquire, fault-five}
 use Rattle.laws.proofs.WellFormed.{isRelease-to}
-use Rattle.laws.proofs.EventKinds.{inner-acquire, inner-release, inner-read, acquire-inner}
+use Rattle.laws.proofs.Tasks.{inner-join}
+use Rattle.laws.proofs.EventKinds.{uncounted-acquire, uncounted-release, uncounted-read, inner-uncounted}
+use Rattle.laws.proofs.EventKinds.{acquire-inner}
 use Rattle.laws.proofs.Nesting.{holder-sole, depth-count, held-to-match, freed-by-match}
 use Rattle.laws.proofs.Questions.{check-sound}
 use Rattle.laws.proofs.Pattern.{isPattern-iff}
@@ -34,16 +36,19 @@ taken σ e (t, b, other, h) =
 
 -- So 5 is given where another task holds the lock of an acquire, and nowhere else.
 five : (σ : Trace) (e : ℕ) → (fault σ e ≡ 5) ↔ (T (enters σ e) × (object σ e < locks) × HeldByAnother σ e)
-unfolding enters
+unfolding enters hasAcquireOp
 five σ e = (
   λ q. let (a, l, n) = fault-five σ e q in (a, l, isFree-fails σ e n),
-  λ r. fault-acquire σ e refl (eqb→eq (at σ e .op) 2 (r .0)) (r .1) ∙ rw (taken σ e (r .2)),
+  λ r.
+      let acquires = eqb→eq (at σ e .op) 2 (and-l (hasAcquireOp σ e) _ (r .0)) in
+      fault-acquire σ e refl acquires (r .1) ∙ rw (taken σ e (r .2)),
 )
 
--- What an inner event needs itself is its predecessor, since it has no writer.
-direct : (σ : Trace) (e x : ℕ) → isInner σ e ≡ true → Direct σ e x → x ≢ 0 → x ≡ predecessor σ e
-direct σ e x y (predecessor-is q) d = q
-direct σ e x y (writer-is q) d = absurd (d (q ∙ writer-none σ e (inner-read σ e y)))
+-- What an inner event needs itself is its predecessor, since it has no writer and joins no task.
+direct : (σ : Trace) (e x : ℕ) → T (isInner σ e) → Direct σ e x → x ≢ 0 → x ≡ predecessor σ e
+direct σ e x i (predecessor-is q) d = q
+direct σ e x i (writer-is q) d = absurd (d (q ∙ writer-none σ e (uncounted-read σ e (inner-uncounted σ e i))))
+direct σ e x i (joined-is q) d = absurd (d (q ∙ joined-none σ e (inner-join σ e i)))
 
 clauses : (b : List ℕ) → check b .refusal ≡ 0 → Reentrancy (trace b)
 unfolding ownDepth
@@ -59,10 +64,11 @@ clauses b q =
       held-to-match = λ e f a. held-to-match σ e a f;
       freed-by-match = freed-by-match σ;
       unmatched = λ e i.
-          let y = is-true (isInner σ e) i in matching-none σ e (inner-acquire σ e y) (inner-release σ e y);
-      needs-predecessor = λ e x i. direct σ e x (is-true (isInner σ e) i);
+          let y = inner-uncounted σ e i in
+          matching-none σ e (uncounted-acquire σ e y) (uncounted-release σ e y);
+      needs-predecessor = direct σ;
       unpaired = λ e f a. (acquire-inner σ e (a .first), acquire-inner σ f (a .second));
-      follows = λ before e i. mayFollow-inner σ before e (is-true (isInner σ e) i);
+      follows = mayFollow-inner σ;
       in-no-pattern = λ p e t m.
           let r = all-iff _ p .0 (isPattern-iff σ p .0 t .acquires) e m in
           acquire-inner σ e (and-r (isEvent σ e) _ r);

@@ -15,7 +15,7 @@ use Rattle.model.specs.Relations.{predecessor, matching, holds, held}
 use Rattle.model.specs.WellFormed.{fault}
 use Rattle.model.specs.Closed.{Direct, Again}
 use Rattle.model.specs.Pattern.{isPattern}
-use Rattle.model.specs.Schedule.{inTaskOrder, mayFollow}
+use Rattle.model.specs.Schedule.{inTaskOrder, afterStart, mayFollow}
 use Rattle.model.specs.Calls.Check.{check}
 
 -- How many of the events up to e pass a test.
@@ -51,9 +51,10 @@ pub record Reentrancy (σ : Trace) : Type 0 where
   -- acquires of one lock;
   pub needs-predecessor : (e x : ℕ) → T (isInner σ e) → Direct σ e x → x ≢ 0 → x ≡ predecessor σ e
   pub unpaired : (e f : ℕ) → Again σ e f → (isInner σ e ≡ false) × (isInner σ f ≡ false)
-  -- a schedule may list it wherever all earlier events of its task are listed;
+  -- a schedule may list it wherever all earlier events of its task and that task's start are listed;
   pub follows : (before : List ℕ) (e : ℕ) → T (isInner σ e)
-      → mayFollow σ before e ≡ (isEvent σ e && not (member e before) && inTaskOrder σ before e)
+      → mayFollow σ before e
+      ≡ (isEvent σ e && not (member e before) && inTaskOrder σ before e && afterStart σ before e)
   -- and no pattern has one.
   pub in-no-pattern : (p : List ℕ) (e : ℕ) → T (isPattern σ p) → List·Memᴰ e p → isInner σ e ≡ false
 

@@ -10,6 +10,11 @@ tasks = 16
 abbrev pub locks : ℕ
 locks = 64
 
+-- How many objects an acquire or release record may have: the locks, and after them one for each task, which
+-- such a record starts or joins.
+abbrev pub syncObjects : ℕ
+syncObjects = 80
+
 -- How many variables there are: an object has 10 bits.
 abbrev pub variables : ℕ
 variables = 1024
@@ -30,7 +35,8 @@ acquireOp = 2
 abbrev pub releaseOp : ℕ
 releaseOp = 3
 
--- An event: operation, task, and object, a lock for acquire and release and a variable for read and write.
+-- An event: operation, task, and object, which is a variable for read and write, and for acquire and release
+-- a lock, or a task to be started or joined.
 pub record Event : Type 0 where
   pub op : ℕ
   pub task : ℕ
