@@ -97,6 +97,12 @@ module _ (σ : Trace) (e : ℕ) (table : List ℕ) where
   unfolding joinOf joins
   latest-join-of z t h = z .at t h
 
+  -- So the event's task is over where the table of joins has it.
+  pub latest-over : LatestEvents (isJoin σ) (target σ) e table → task σ e < length table
+      → isOver σ e ≡ not (eqb (getD table (task σ e) 0) 0)
+  unfolding isOver
+  latest-over z h = rw (latest-join-of z (task σ e) h)
+
 module _ (σ : Trace) (e : ℕ) (table starting : List ℕ) (z : LatestEvents (λ f. true) (task σ) e table)
     (s : LatestEvents (isStart σ) (target σ) e starting) where
   -- The last event of a task, or its start.
@@ -131,8 +137,3 @@ module _ (σ : Trace) (e : ℕ) (table starting : List ℕ) (z : LatestEvents (�
           latest-start-of σ e starting s (target σ e) k,
           latest-join-of σ e joining j (target σ e) l,
         )
-
-    -- The event's task is over where the table of joins has it.
-    pub latest-over : task σ e < length joining → isOver σ e ≡ not (eqb (getD joining (task σ e) 0) 0)
-    unfolding isOver
-    latest-over l = rw (latest-join-of σ e joining j (task σ e) l)

@@ -1,155 +1,210 @@
--- How the check goes on after one event, by its operation and what the tables say. Assumes nothing.
+-- What one event is refused with and what it does to the tables of the check, by its operation and object.
+-- Assumes nothing.
 use Prim.Native.Nat.{ℕ, suc, _+_, _-_, _/_, _≤_, _<_}
 use mathlib.Core.Path.{_≡_, sym, _∙_}
 use mathlib.Core.Logic.{⊎-elim, _≢_}
-use mathlib.Core.Bool.{cond}
+use mathlib.Core.Bool.{true, false, cond}
 use mathlib.Core.List.{List}
 use native.Mathlib.Numerals.{add-one}
 use native.Mathlib.Omega.{arith}
-use lib.Dec.{T}
+use lib.Dec.{T, eqb}
 use lib.ListN.{length, getD, set, replicate, length-set, length-replicate}
 use borrow.Author.Tests.{eq-eqb, ne-eqb}
-use Rattle.model.specs.Trace.{Trace, locks, variables, at, task, object, isWrite}
+use Rattle.model.specs.Trace.{Trace, tasks, locks, variables, at, task, object, isWrite, enters, leaves}
+use Rattle.model.specs.Tasks.{isStart, isJoin, target}
 use Rattle.model.specs.Relations.{holds, writer}
 use Rattle.model.specs.Recording.{decodeAll}
-use Rattle.model.specs.WellFormed.{isFree, fault}
+use Rattle.model.specs.WellFormed.{isFree, isNew, isOver, fault}
 use Rattle.model.specs.Calls.Questions.{outcome}
 use Rattle.model.specs.Calls.Check.{checkEvents}
 use Rattle.laws.specs.Walked.{Holders, LatestEvents}
-use Rattle.laws.proofs.Tests.{equal?}
+use Rattle.laws.proofs.Tests.{decided, equal?}
 use Rattle.laws.proofs.Trace.{decodeAll-length}
-use Rattle.laws.proofs.LatestEvents.{latest-start, latest-set, latest-keep, latest-writer}
+use Rattle.laws.proofs.LatestEvents.{latest-start, latest-set, latest-keep, latest-writer, latest-over}
 use Rattle.laws.proofs.Kept.{holders-start, holders-access}
-use Rattle.laws.proofs.Faults.{isRead-op, isWrite-op, accesses-is, fault-lock, fault-acquire}
-use Rattle.laws.proofs.Faults.{fault-release, fault-write, fault-read, checkEvents-fault, checkEvents-none}
-use Rattle.recording.specs.Asked.{Asked}
+use Rattle.laws.proofs.Operations.{isRead-op, isWrite-op, isStart-none, isJoin-none, accesses-is}
+use Rattle.laws.proofs.Operations.{isStart-lock, isJoin-lock, tasks-is}
+use Rattle.laws.proofs.Faults.{fault-object, fault-acquire, fault-release, fault-start, fault-join}
+use Rattle.laws.proofs.Faults.{fault-write, fault-read, checkEvents-fault, checkEvents-none}
+use Rattle.recording.specs.Asked.{Done, Asked}
 
--- ---- one event
-
--- What asking event e answers, and the tables that it leaves.
-abbrev Answer : Trace → ℕ → ℕ → List ℕ → List ℕ → List ℕ → Type 0
-Answer σ e r holders depths writes = (r ≡ fault σ e) × (r ≡ 0 → Asked σ (e + 1) holders depths writes)
+-- What event e is refused with, unless its task is over, and the tables that it leaves.
+abbrev Answer : Trace → ℕ → ℕ → List ℕ → List ℕ → List ℕ → List ℕ → List ℕ → Type 0
+Answer σ e r holders depths writes starts joins =
+    (fault σ e ≡ cond (eqb r 0) (cond (isOver σ e) 16 0) r)
+    × (r ≡ 0 → Done σ (e + 1) holders depths writes starts joins)
 
 -- An event with its operation and object, to which the check has come.
-pub record Coming (σ : Trace) (e op o : ℕ) (holders depths writes : List ℕ) : Type 0 where
+pub record Coming (σ : Trace) (e op o : ℕ) (holders depths writes starts joins : List ℕ) : Type 0 where
   pub op-is : (op < 4) × (op ≡ at σ e .op)
   pub object-is : (o < variables) × (o ≡ object σ e)
-  pub asked : Asked σ e holders depths writes
+  pub done : Done σ e holders depths writes starts joins
 
-module _ {σ : Trace} {e op o : ℕ} {holders depths writes : List ℕ} (u : Coming σ e op o holders depths writes)
-  where
-    z : Asked σ e holders depths writes
-    z = u .asked
+module _ {σ : Trace} {e op o : ℕ} {holders depths writes starts joins : List ℕ}
+    (u : Coming σ e op o holders depths writes starts joins) where
+  z : Done σ e holders depths writes starts joins
+  z = u .done
 
-    is-op : op ≡ at σ e .op
-    is-op = u .op-is .1
+  is-op : op ≡ at σ e .op
+  is-op = u .op-is .1
 
-    is-object : o ≡ object σ e
-    is-object = u .object-is .1
+  is-object : o ≡ object σ e
+  is-object = u .object-is .1
 
-    next : (h d w : List ℕ) → fault σ e ≡ 0 → Holders σ (suc e) h d → length w ≡ variables
-        → LatestEvents (isWrite σ) (object σ) (suc e) w → Asked σ (e + 1) h d w
-    next h d w none held long write =
-        rw (add-one e) (record { faultless = before; holder = held; long = long; write = write })
-      where
-        before : (f : ℕ) → 1 ≤ f → f < suc e → fault σ f ≡ 0
-        before f a b =
-            ⊎-elim (λ (q : f ≡ e). rw q none) (λ d. z .faultless f a (omega arith)) (equal? f e)
+  unwritten : op ≢ 1 → LatestEvents (isWrite σ) (object σ) (suc e) writes
+  unwritten d =
+      latest-keep (isWrite σ) (object σ) e writes (z .written) (isWrite-op σ e is-op ∙ ne-eqb op 1 d)
 
-    unwritten : op ≢ 1 → LatestEvents (isWrite σ) (object σ) (suc e) writes
-    unwritten d =
-        latest-keep (isWrite σ) (object σ) e writes (z .write) (isWrite-op σ e is-op ∙ ne-eqb op 1 d)
+  unstarted : isStart σ e ≡ false → LatestEvents (isStart σ) (target σ) (suc e) starts
+  unstarted = latest-keep (isStart σ) (target σ) e starts (z .started)
 
-    -- A read or a write leaves the holders.
-    unlocked : op < 2 → Holders σ (suc e) holders depths
-    unlocked a =
-        let (no-enter, no-leave) = accesses-is σ e is-op a in holders-access no-enter no-leave (z .holder)
+  unjoined : isJoin σ e ≡ false → LatestEvents (isJoin σ) (target σ) (suc e) joins
+  unjoined = latest-keep (isJoin σ) (target σ) e joins (z .joined)
 
-    -- A read whose variable has no write.
-    pub read-refused : op ≡ 0 → getD writes o 0 ≡ 0 → Answer σ e 7 holders depths writes
-    read-refused a n = (sym (fault-read σ e is-op a ∙ rw (none)), λ q. absurd (omega arith))
-      where
-        none : writer σ e ≡ 0
-        none =
-            sym (latest-writer σ e writes (z .write) (isRead-op σ e is-op ∙ eq-eqb op 0 a)
-            (omega (arith, z .long, u .object-is))) ∙ rw is-object at n
+  refused : (r : ℕ) → r ≢ 0 → fault σ e ≡ r → Answer σ e r holders depths writes starts joins
+  refused r d q = (q ∙ rw (ne-eqb r 0 d), λ none. absurd (d none))
 
-    -- A read of a variable that was written.
-    pub read-passed : op ≡ 0 → getD writes o 0 ≢ 0 → Answer σ e 0 holders depths writes
-    read-passed a n = (
-      sym none,
-      λ _. next holders depths writes none (unlocked (omega arith)) (z .long) (unwritten (omega arith)),
-    )
-      where
-        some : writer σ e ≢ 0
-        some q =
-            n (rw is-object (latest-writer σ e writes (z .write) (isRead-op σ e is-op ∙ eq-eqb op 0 a)
-            (omega (arith, z .long, u .object-is)) ∙ q))
+  -- ---- reads and writes
 
-        none : fault σ e ≡ 0
-        none = fault-read σ e is-op a ∙ rw (ne-eqb (writer σ e) 0 some)
+  -- A read or a write leaves holders, starts and joins.
+  accessed : op < 2 → (w : List ℕ) → length w ≡ variables → LatestEvents (isWrite σ) (object σ) (suc e) w
+      → Done σ (e + 1) holders depths w starts joins
+  accessed a w long written =
+      let (no-enter, no-leave) = accesses-is σ e is-op a in
+      rw (add-one e) (record {
+        holder = holders-access no-enter no-leave (z .holder);
+        writes-long = long;
+        written = written;
+        starts-long = z .starts-long;
+        started = unstarted (isStart-none σ e is-op (omega arith));
+        joins-long = z .joins-long;
+        joined = unjoined (isJoin-none σ e is-op (omega arith));
+      })
 
-    -- A write.
-    pub written : op ≡ 1 → Answer σ e 0 holders depths (set writes o e)
-    written a =
-        rw is-object (
-          sym (fault-write σ e is-op a),
-          λ _. next holders depths (set writes (object σ e) e) (fault-write σ e is-op a)
-              (unlocked (omega arith))
-              (length-set writes (object σ e) e ∙ z .long)
-              (latest-set (isWrite σ) (object σ) e writes (z .write) write
-              (omega (arith, z .long, u .object-is))),
-        )
-      where
-        write : T (isWrite σ e)
-        write = rw (isWrite-op σ e is-op, eq-eqb op 1 a) tt
+  -- The latest write of a read's variable.
+  last-write : op ≡ 0 → getD writes o 0 ≡ writer σ e
+  last-write a =
+      rw is-object (latest-writer σ e writes (z .written) (isRead-op σ e is-op ∙ eq-eqb op 0 a)
+      (omega (arith, z .writes-long, u .object-is)))
 
-    -- An acquire or release of what is no lock.
-    pub no-lock : op ≢ 0 → op ≢ 1 → 64 ≤ o → Answer σ e 4 holders depths writes
-    no-lock a b h =
-        (sym (fault-lock σ e is-op (omega arith) (omega arith) (omega arith)), λ q. absurd (omega arith))
+  -- A read whose variable has no write.
+  pub read-refused : op ≡ 0 → getD writes o 0 ≡ 0 → Answer σ e 7 holders depths writes starts joins
+  read-refused a n = refused 7 (omega arith) (fault-read σ e is-op a ∙ rw (sym (last-write a) ∙ n))
 
-    locked : op ≢ 1 → (r : ℕ) → r ≡ fault σ e → (h d : List ℕ) → (r ≡ 0 → Holders σ (e + 1) h d)
-        → Answer σ e r h d writes
-    locked n r q h d f = (
-      q,
-      λ none. next h d writes (sym q ∙ none) (rw (add-one e) at (f none)) (z .long) (unwritten n),
-    )
+  -- A read of a variable that was written.
+  pub read-passed : op ≡ 0 → getD writes o 0 ≢ 0 → Answer σ e 0 holders depths writes starts joins
+  read-passed a n = (
+    fault-read σ e is-op a ∙ rw (ne-eqb (writer σ e) 0 (λ q. n (last-write a ∙ q))),
+    λ _. accessed (omega arith) writes (z .writes-long) (unwritten (omega arith)),
+  )
+
+  -- A write.
+  pub written : op ≡ 1 → Answer σ e 0 holders depths (set writes o e) starts joins
+  written a =
+      rw is-object (
+        fault-write σ e is-op a,
+        λ _. accessed (omega arith) (set writes (object σ e) e)
+            (length-set writes (object σ e) e ∙ z .writes-long)
+            (latest-set (isWrite σ) (object σ) e writes (z .written) write
+            (omega (arith, z .writes-long, u .object-is))),
+      )
+    where
+      write : T (isWrite σ e)
+      write = rw (isWrite-op σ e is-op, eq-eqb op 1 a) tt
+
+  -- An acquire or release record with an object that stands for nothing.
+  pub no-object : op ≢ 0 → op ≢ 1 → 80 ≤ o → Answer σ e 4 holders depths writes starts joins
+  no-object a b h =
+      refused 4 (omega arith)
+      (fault-object σ e is-op (omega arith) (omega (arith, u .op-is)) (omega arith))
+
+  -- ---- acquires and releases
+
+  module _ (h : o < 64) (n : op ≢ 1) where
+    lock : object σ e < locks
+    lock = omega (arith, is-object)
+
+    locked : (hs ds : List ℕ) → Holders σ (e + 1) hs ds → Done σ (e + 1) hs ds writes starts joins
+    locked hs ds held =
+        rw (add-one e) (record {
+          holder = rw (add-one e) at held;
+          writes-long = z .writes-long;
+          written = unwritten n;
+          starts-long = z .starts-long;
+          started = unstarted (isStart-lock σ e is-op lock);
+          joins-long = z .joins-long;
+          joined = unjoined (isJoin-lock σ e is-op lock);
+        })
 
     -- An acquire, by what question 5 answers.
-    pub acquired : op ≡ 2 → o < 64 → (r : ℕ) (h d : List ℕ)
-        → (r ≡ cond (isFree σ e) 0 5) × (r ≡ 0 → Holders σ (e + 1) h d) → Answer σ e r h d writes
-    acquired a b r h d (q, f) =
-        locked (omega arith) r (q ∙ sym (fault-acquire σ e is-op a (omega arith))) h d f
+    pub acquired : op ≡ 2 → (r : ℕ) (hs ds : List ℕ)
+        → (r ≡ cond (isFree σ e) 0 5) × (r ≡ 0 → Holders σ (e + 1) hs ds)
+        → Answer σ e r hs ds writes starts joins
+    acquired a r hs ds (q, f) = (
+      fault-acquire σ e is-op a lock ∙ rw q (decided (isFree σ e) (λ y. rw y) (λ y. rw y)),
+      λ none. locked hs ds (f none),
+    )
 
     -- A release, by what question 6 answers.
-    pub released : op ≡ 3 → o < 64 → (r : ℕ) (h d : List ℕ)
-        → (r ≡ cond (holds σ e (task σ e) (object σ e)) 0 6) × (r ≡ 0 → Holders σ (e + 1) h d)
-        → Answer σ e r h d writes
-    released a b r h d (q, f) =
-        locked (omega arith) r (q ∙ sym (fault-release σ e is-op a (omega arith))) h d f
+    pub released : op ≡ 3 → (r : ℕ) (hs ds : List ℕ)
+        → (r ≡ cond (holds σ e (task σ e) (object σ e)) 0 6) × (r ≡ 0 → Holders σ (e + 1) hs ds)
+        → Answer σ e r hs ds writes starts joins
+    released a r hs ds (q, f) = (
+      fault-release σ e is-op a lock
+          ∙ rw q (decided (holds σ e (task σ e) (object σ e)) (λ y. rw y) (λ y. rw y)),
+      λ none. locked hs ds (f none),
+    )
 
--- ---- the walk
+  -- ---- starts and joins
 
--- Before event 1 the tables are clear.
-pub asked-start : (σ : Trace) → Asked σ 1 (replicate locks 0) (replicate locks 1) (replicate variables 0)
-asked-start σ = record {
-  faultless = λ f a b. absurd (omega arith);
-  holder = holders-start;
-  long = length-replicate {A = ℕ} variables 0;
-  write = latest-start (isWrite σ) (object σ) variables;
-}
+  module _ (h : 64 ≤ o) (k : o < 80) (n : op ≢ 1) where
+    beyond : locks ≤ object σ e
+    beyond = omega (arith, is-object)
 
-module _ (b : List ℕ) (e : ℕ) {holders depths writes : List ℕ}
-    (z : Asked (decodeAll b) e holders depths writes) where
-  -- A refusal at event e decides.
-  pub asked-refused : (r : ℕ) → 1 ≤ e → e ≤ length b / 2 → r ≡ fault (decodeAll b) e → r ≢ 0
-      → outcome r e ≡ checkEvents (decodeAll b)
-  asked-refused r h k q d =
-      rw q (sym (checkEvents-fault (decodeAll b) e h (omega (arith, decodeAll-length b)) (z .faultless)
-      (λ n. d (q ∙ n))))
+    small : object σ e < 80
+    small = omega (arith, is-object)
 
-  -- After the last event nothing is refused.
-  pub asked-passed : length b / 2 < e → outcome 0 0 ≡ checkEvents (decodeAll b)
-  asked-passed k =
-      sym (checkEvents-none (decodeAll b) (λ f i j. z .faultless f i (omega (arith, decodeAll-length b))))
+    unlocked : Holders σ (suc e) holders depths
+    unlocked =
+        let (no-enter, no-leave) = tasks-is σ e is-op beyond in holders-access no-enter no-leave (z .holder)
+
+    -- The task that the object stands for.
+    pub target-is : o - 64 ≡ target σ e
+    unfolding target
+    target-is = rw is-object
+
+    -- A start, by what question 15 answers.
+    pub started : op ≡ 2 → (r : ℕ) (ss : List ℕ) → length ss ≡ tasks
+        → (r ≡ cond (isNew σ e) 0 15) × (r ≡ 0 → LatestEvents (isStart σ) (target σ) (e + 1) ss)
+        → Answer σ e r holders depths writes ss joins
+    started a r ss long (q, f) = (
+      fault-start σ e is-op a beyond small ∙ rw q (decided (isNew σ e) (λ y. rw y) (λ y. rw y)),
+      λ none. rw (add-one e) (record {
+        holder = unlocked;
+        writes-long = z .writes-long;
+        written = unwritten n;
+        starts-long = long;
+        started = rw (add-one e) at (f none);
+        joins-long = z .joins-long;
+        joined = unjoined (isJoin-none σ e is-op (omega arith));
+      }),
+    )
+
+    -- A join, by what the first part of question 16 answers.
+    pub joined : op ≡ 3 → (r : ℕ) (js : List ℕ) → length js ≡ tasks
+        → (r ≡ cond (eqb (target σ e) (task σ e)) 16 0)
+        × (r ≡ 0 → LatestEvents (isJoin σ) (target σ) (e + 1) js)
+        → Answer σ e r holders depths writes starts js
+    joined a r js long (q, f) = (
+      fault-join σ e is-op a beyond small
+          ∙ rw q (decided (eqb (target σ e) (task σ e)) (λ y. rw y) (λ y. rw y)),
+      λ none. rw (add-one e) (record {
+        holder = unlocked;
+        writes-long = z .writes-long;
+        written = unwritten n;
+        starts-long = z .starts-long;
+        started = unstarted (isStart-none σ e is-op (omega arith));
+        joins-long = long;
+        joined = rw (add-one e) at (f none);
+      }),
+    )

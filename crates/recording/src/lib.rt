@@ -1,21 +1,22 @@
-// Recordings: the events of one, unpacked from its records, and the check of questions 1 to 7.
+// Recordings: the events of one, unpacked from its records, and the check of questions 1 to 7, 15 and 16.
 // `records` is the part of a recording after its header of two bytes, wherever it stands.
 ghost use Prim.Native.Nat.{_+_, _*_, _-_, _<_, _≤_};
 ghost use mathlib.Core.Path.{_≡_};
-ghost use mathlib.Core.Bool.{cond};
-ghost use lib.Dec.{T};
+ghost use mathlib.Core.Bool.{true, cond};
+ghost use lib.Dec.{T, eqb};
 ghost use lib.ListN.{length, getD};
 ghost use lib.Seq.{sets};
 ghost use Rattle.model.specs.Lists.{hasBit};
 ghost use Rattle.model.specs.Bytes.{numbers, twoBytes};
 ghost use Rattle.model.specs.Trace.{tasks, locks, variables, at, task, object, enters, leaves};
+ghost use Rattle.model.specs.Tasks.{target, isStart, isJoin};
 ghost use Rattle.model.specs.Recording.{decodeAll, eventCount};
 ghost use Rattle.model.specs.Relations.{holds};
-ghost use Rattle.model.specs.WellFormed.{isFree, fault};
+ghost use Rattle.model.specs.WellFormed.{isFree, isNew, isOver, fault};
 ghost use Rattle.model.specs.Calls.Check.{checkEvents, check};
 ghost use Rattle.laws.specs.Sizes.{recordsLength, tableLength};
-ghost use Rattle.laws.specs.Walked.{Holders};
-ghost use Rattle.recording.specs.Asked.{Asked};
+ghost use Rattle.laws.specs.Walked.{Holders, LatestEvents};
+ghost use Rattle.recording.specs.Asked.{Done, Asked};
 use model::Outcome;
 
 // The number at place i of bytes that are numbers of two bytes, the high byte first.
@@ -51,7 +52,7 @@ pub fn task(records: &[u8], e: usize) -> u8
     (records[2 * (e - 1)] >> 2) & 15
 }
 
-// The lock or variable of event e: the low 10 bits.
+// The lock or variable of event e, or what stands for the task that it starts or joins: the low 10 bits.
 pub fn object(records: &[u8], e: usize) -> u16
     requires { ⌜ (1 ≤ e) × (2 * e ≤ length (now records)) ⌝ }
     ensures { λ r. ⌜ (r < variables) × (r ≡ object (decodeAll (now (records .entry))) e) ⌝ }
@@ -115,14 +116,84 @@ fn leave(records: &[u8], e: usize, t: u8, l: usize, holders: &mut [u8], depths: 
     0
 }
 
-// Puts questions 4 to 7 to event e, with the holder and the depth of each lock and the latest write of each
-// variable: the number of the first "no", or 0, and then the tables stand before the next event.
-fn ask(records: &[u8], e: usize, holders: &mut [u8], depths: &mut [u16], writes: &mut [u16]) -> u64
+// Puts question 15 to start e of task u by task t, with the latest event, the start and the latest join of
+// each task: 15, or 0, and then e is the start of task u.
+fn start(
+    records: &[u8],
+    e: usize,
+    t: u8,
+    u: usize,
+    latest: &[u16],
+    starts: &mut [u16],
+    joins: &[u16],
+) -> u64
+    requires { ⌜ (e < tableLength) × T (isStart (decodeAll (now records)) e)
+        × (t ≡ task (decodeAll (now records)) e) × (u < tasks) × (u ≡ target (decodeAll (now records)) e)
+        × (length (now latest) ≡ tasks) × LatestEvents (λ f. true) (task (decodeAll (now records))) e (now latest)
+        × (length (now starts) ≡ tasks)
+        × LatestEvents (isStart (decodeAll (now records))) (target (decodeAll (now records))) e (now starts)
+        × (length (now joins) ≡ tasks)
+        × LatestEvents (isJoin (decodeAll (now records))) (target (decodeAll (now records))) e (now joins) ⌝ }
+    ensures { λ r. ⌜ (r ≡ cond (isNew (decodeAll (now (records .entry))) e) 0 15)
+        × (r ≡ 0 → LatestEvents (isStart (decodeAll (now (records .entry))))
+        (target (decodeAll (now (records .entry)))) (e + 1) (now (starts .exit))) ⌝ }
+{
+    if u == t as usize {
+        return 15;
+    }
+    if starts[u] != 0 {
+        return 15;
+    }
+    if joins[u] != 0 {
+        return 15;
+    }
+    if latest[u] != 0 {
+        return 15;
+    }
+    starts[u] = e as u16;
+    0
+}
+
+// Puts the first part of question 16 to join e of task u by task t: 16 where it is its own, or 0, and then e
+// is the latest join of task u.
+fn join(records: &[u8], e: usize, t: u8, u: usize, joins: &mut [u16]) -> u64
+    requires { ⌜ (e < tableLength) × T (isJoin (decodeAll (now records)) e)
+        × (t ≡ task (decodeAll (now records)) e) × (u < tasks) × (u ≡ target (decodeAll (now records)) e)
+        × (length (now joins) ≡ tasks)
+        × LatestEvents (isJoin (decodeAll (now records))) (target (decodeAll (now records))) e (now joins) ⌝ }
+    ensures { λ r. ⌜ (r ≡ cond (eqb (target (decodeAll (now (records .entry))) e)
+        (task (decodeAll (now (records .entry))) e)) 16 0)
+        × (r ≡ 0 → LatestEvents (isJoin (decodeAll (now (records .entry))))
+        (target (decodeAll (now (records .entry)))) (e + 1) (now (joins .exit))) ⌝ }
+{
+    if u == t as usize {
+        return 16;
+    }
+    joins[u] = e as u16;
+    0
+}
+
+// Puts questions 4 to 7 and 15, and of 16 whether a task joins itself, to event e of task t, with what earlier
+// events have done: the number of the first "no", or 0, and then the tables have what this one does too.
+fn ask_object(
+    records: &[u8],
+    e: usize,
+    t: u8,
+    holders: &mut [u8],
+    depths: &mut [u16],
+    writes: &mut [u16],
+    latest: &[u16],
+    starts: &mut [u16],
+    joins: &mut [u16],
+) -> u64
     requires { ⌜ (1 ≤ e) × (2 * e ≤ length (now records)) × (e < tableLength)
-        × Asked (decodeAll (now records)) e (now holders) (now depths) (now writes) ⌝ }
-    ensures { λ r. ⌜ (r ≡ fault (decodeAll (now (records .entry))) e)
-        × (r ≡ 0 → Asked (decodeAll (now (records .entry))) (e + 1) (now (holders .exit))
-        (now (depths .exit)) (now (writes .exit))) ⌝ }
+        × (t < tasks) × (t ≡ task (decodeAll (now records)) e)
+        × Asked (decodeAll (now records)) e (now holders) (now depths) (now writes) (now latest) (now starts)
+        (now joins) ⌝ }
+    ensures { λ r. ⌜ (fault (decodeAll (now (records .entry))) e
+        ≡ cond (eqb r 0) (cond (isOver (decodeAll (now (records .entry))) e) 16 0) r)
+        × (r ≡ 0 → Done (decodeAll (now (records .entry))) (e + 1) (now (holders .exit)) (now (depths .exit))
+        (now (writes .exit)) (now (starts .exit)) (now (joins .exit))) ⌝ }
 {
     let op = operation(records, e);
     let at = object(records, e) as usize;
@@ -136,17 +207,65 @@ fn ask(records: &[u8], e: usize, holders: &mut [u8], depths: &mut [u16], writes:
         writes[at] = e as u16;
         return 0;
     }
-    if 64 <= at {
+    if 80 <= at {
         return 4;
     }
-    let t = task(records, e);
+    if 64 <= at {
+        if op == 2 {
+            return start(records, e, t, at - 64, latest, starts, joins);
+        }
+        return join(records, e, t, at - 64, joins);
+    }
     if op == 2 {
         return enter(records, e, t, at, holders, depths);
     }
     leave(records, e, t, at, holders, depths)
 }
 
-// Puts questions 4 to 7 event by event: the earliest event with a "no" decides.
+// Puts questions 4 to 7, 15 and 16 to event e, with the tables of earlier events: the number of the first
+// "no", or 0, and then the tables stand before the next event. That a task is over is asked last.
+fn ask(
+    records: &[u8],
+    e: usize,
+    holders: &mut [u8],
+    depths: &mut [u16],
+    writes: &mut [u16],
+    latest: &mut [u16],
+    starts: &mut [u16],
+    joins: &mut [u16],
+) -> u64
+    requires { ⌜ (1 ≤ e) × (2 * e ≤ length (now records)) × (e < tableLength)
+        × Asked (decodeAll (now records)) e (now holders) (now depths) (now writes) (now latest) (now starts)
+        (now joins) ⌝ }
+    ensures { λ r. ⌜ (r ≡ fault (decodeAll (now (records .entry))) e)
+        × (r ≡ 0 → Asked (decodeAll (now (records .entry))) (e + 1) (now (holders .exit))
+        (now (depths .exit)) (now (writes .exit)) (now (latest .exit)) (now (starts .exit))
+        (now (joins .exit))) ⌝ }
+{
+    let t = task(records, e);
+    let over = joins[t as usize];
+    let refusal = ask_object(
+        records,
+        e,
+        t,
+        holders,
+        depths,
+        writes,
+        latest,
+        starts,
+        joins,
+    );
+    if refusal != 0 {
+        return refusal;
+    }
+    if over != 0 {
+        return 16;
+    }
+    latest[t as usize] = e as u16;
+    0
+}
+
+// Puts questions 4 to 7, 15 and 16 event by event: the earliest event with a "no" decides.
 fn check_events(records: &[u8]) -> Outcome
     requires { ⌜ length (now records) ≤ recordsLength ⌝ }
     ensures { λ r. ⌜ r ≡ checkEvents (decodeAll (now (records .entry))) ⌝ }
@@ -154,9 +273,21 @@ fn check_events(records: &[u8]) -> Outcome
     let mut holders = [0u8; 64];
     let mut depths = [1u16; 64];
     let mut writes = [0u16; 1024];
+    let mut latest = [0u16; 16];
+    let mut starts = [0u16; 16];
+    let mut joins = [0u16; 16];
     let mut e = 1;
     while e <= records.len() / 2 {
-        let refusal = ask(records, e, &mut holders, &mut depths, &mut writes);
+        let refusal = ask(
+            records,
+            e,
+            &mut holders,
+            &mut depths,
+            &mut writes,
+            &mut latest,
+            &mut starts,
+            &mut joins,
+        );
         if refusal != 0 {
             return Outcome {
                 refusal,
@@ -179,7 +310,7 @@ pub fn event_count(recording: &[u8]) -> usize
     (((recording[0] & 15) as usize) << 8) | (recording[1] as usize)
 }
 
-// Checks a recording: questions 1 to 3 on its bytes, and 4 to 7 on the part after its header.
+// Checks a recording: questions 1 to 3 on its bytes, and 4 to 7, 15 and 16 on the part after its header.
 pub fn check(recording: &[u8]) -> Outcome
     ensures { λ r. ⌜ r ≡ check (now (recording .entry)) ⌝ }
 {
