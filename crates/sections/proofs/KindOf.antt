@@ -2,7 +2,7 @@
 -- depths after it. Assumes nothing.
 use Prim.Native.Nat.{ℕ, zero, suc, _+_, _-_, _≤_, _<_}
 use mathlib.Core.Path.{_≡_, sym, _∙_}
-use mathlib.Core.Logic.{⊎-elim, _≢_}
+use mathlib.Core.Logic.{_≢_}
 use mathlib.Core.Bool.{true, false, cond, _||_}
 use mathlib.Core.List.{List}
 use native.Mathlib.Numerals.{add-one}
@@ -14,14 +14,13 @@ use Rattle.model.specs.Lists.{hasBit}
 use Rattle.model.specs.Trace.{Trace, tasks, locks, at, task, object, enters, leaves}
 use Rattle.model.specs.Relations.{held}
 use Rattle.laws.specs.Walked.{Kept, KeptDepths}
-use Rattle.laws.proofs.Tests.{or-l, or-r, equal?}
-use Rattle.laws.proofs.Faults.{enters-is, leaves-is, accesses-is}
-use Rattle.laws.specs.EventKinds.{innerKind, kind}
-use Rattle.laws.proofs.EventKinds.{kind-access, kind-enter, kind-leave}
+use Rattle.laws.proofs.Operations.{enters-is, leaves-is, accesses-is, tasks-is}
+use Rattle.laws.specs.EventKinds.{uncountedKind, kind}
+use Rattle.laws.proofs.EventKinds.{kind-access, kind-enter, kind-leave, kind-task}
 use Rattle.laws.proofs.Relations.{held-bit}
 use Rattle.laws.proofs.Kept.{kept-fits, kept-holds, kept-free, kept-first, kept-own, kept-again, kept-freed}
 use Rattle.laws.proofs.Kept.{kept-lowered, keptDepths-keep, keptDepths-set, keptDepths-access}
-use Rattle.laws.proofs.WellFormed.{WellFormed, enter-isFree, leave-held, operation-lt}
+use Rattle.laws.proofs.WellFormed.{WellFormed, enter-isFree, leave-held}
 
 -- Event e of a well-formed trace, with its operation, before which this is kept of the locks' depths.
 pub record Coming (σ : Trace) (e op : ℕ) (depths : List ℕ) : Type 0 where
@@ -50,32 +49,37 @@ module _ {σ : Trace} {e op : ℕ} {depths : List ℕ} (u : Coming σ e op depth
         rw (add-one e) (keptDepths-access no-enter no-leave (u .depths-are)),
   )
 
-  entered : op ≡ 2 → T (enters σ e)
-  entered = enters-is σ e is-op
+  -- The kind of a start or a join, which changes none either.
+  pub task-kind : 2 ≤ op → {o : ℕ} → o ≡ object σ e → locks ≤ o → Kind σ e 4 depths
+  task-kind h q l = (
+    omega (arith, u .op-is),
+    kind-task σ e is-op h (u .op-is .0) (rw q at l),
+    let (no-enter, no-leave) = tasks-is σ e is-op (rw q at l) in
+        rw (add-one e) (keptDepths-access no-enter no-leave (u .depths-are)),
+  )
 
-  left : op ≡ 3 → T (leaves σ e)
-  left = leaves-is σ e is-op
+  module _ {o : ℕ} (q : o ≡ object σ e) (b : o < locks) where
+    lock : object σ e < locks
+    lock = rw q at b
 
-  module _ {o : ℕ} (q : o ≡ object σ e) where
-    -- The object of an acquire or a release is a lock.
-    pub lock-small : 2 ≤ op → o < locks
-    lock-small h =
-        rw q (operation-lt σ (u .sound) e (u .event .0) (u .event .1)
-        (⊎-elim (λ a. or-l (enters σ e) _ (entered a))
-        (λ d. or-r (enters σ e) _ (left (omega (arith, u .op-is)))) (equal? op 2)))
+    entered : op ≡ 2 → T (enters σ e)
+    entered = enters-is σ e is-op lock
 
-    kept-at : 2 ≤ op → (h : ℕ) × Kept σ e (object σ e) h (getD depths o 0)
-    kept-at h = rw q (u .depths-are .at (object σ e) (rw q at (lock-small h)))
+    left : op ≡ 3 → T (leaves σ e)
+    left = leaves-is σ e is-op lock
+
+    kept-at : (h : ℕ) × Kept σ e (object σ e) h (getD depths o 0)
+    kept-at = rw q (u .depths-are .at (object σ e) lock)
 
     -- What is kept for its lock's depth is at most the event's number.
-    pub depth-fits : 2 ≤ op → getD depths o 0 ≤ e
-    depth-fits h = kept-fits (u .event .0) (kept-at h .1)
+    pub depth-fits : getD depths o 0 ≤ e
+    depth-fits = kept-fits (u .event .0) (kept-at .1)
 
     unmoved : (h : ℕ) → Kept σ (suc e) (object σ e) h (getD depths o 0) → KeptDepths σ (e + 1) depths
     unmoved h z = rw (add-one e) (keptDepths-keep (u .depths-are) (rw q at z))
 
-    moved : 2 ≤ op → (h x : ℕ) → Kept σ (suc e) (object σ e) h x → KeptDepths σ (e + 1) (set depths o x)
-    moved i h x z = rw (add-one e, q) (keptDepths-set (u .depths-are) (rw q at (lock-small i)) z)
+    moved : (h x : ℕ) → Kept σ (suc e) (object σ e) h x → KeptDepths σ (e + 1) (set depths o x)
+    moved h x z = rw (add-one e, q) (keptDepths-set (u .depths-are) lock z)
 
     -- ---- acquires
 
@@ -85,17 +89,17 @@ module _ {σ : Trace} {e op : ℕ} {depths : List ℕ} (u : Coming σ e op depth
           → T (eqb h 0 || eqb h (suc (task σ e))) × (hasBit (held σ e) o ≡ eqb h (suc (task σ e)))
       holder-is h z = (
         rw (kept-free z) at (enter-isFree σ (u .sound) e (entered a)),
-        held-bit σ e o (lock-small (omega arith)) ∙ rw q (kept-holds z (task σ e) small),
+        held-bit σ e o b ∙ rw q (kept-holds z (task σ e) small),
       )
 
       -- The kind of an acquire whose lock is not held,
       pub enter-outer : hasBit (held σ e) o ≡ false → Kind σ e 2 depths
-      enter-outer n = go (kept-at (omega arith) .0) (kept-at (omega arith) .1)
+      enter-outer n = go (kept-at .0) (kept-at .1)
         where
           go : (h : ℕ) → Kept σ e (object σ e) h (getD depths o 0) → Kind σ e 2 depths
           go zero z =
               let (own, after) = kept-first small (entered a) z in
-              (omega (arith, u .op-is), kind-enter σ e is-op a 0 own, unmoved _ after)
+              (omega (arith, u .op-is), kind-enter σ e is-op a lock 0 own, unmoved _ after)
           go (suc t) z =
               let (free, bit) = holder-is (suc t) z in
               absurd (rw (sym bit ∙ n, eqb·suc-zero t) at free)
@@ -103,13 +107,13 @@ module _ {σ : Trace} {e op : ℕ} {depths : List ℕ} (u : Coming σ e op depth
       -- and of one whose lock is.
       pub enter-inner : hasBit (held σ e) o ≡ true → Kind σ e 4 (set depths o (getD depths o 0 + 1))
       enter-inner y =
-          let (h, z) = kept-at (omega arith) in
+          let (h, z) = kept-at in
           let own : h ≡ suc (task σ e) = eqb-true h (suc (task σ e)) (sym (holder-is h z .1) ∙ y) in
           let z : Kept σ e (object σ e) (suc (task σ e)) (getD depths o 0) = rw own at z in
           let (depth, deep) = kept-own small z in (
             omega (arith, u .op-is),
-            rw (ne-eqb (getD depths o 0) 0 (omega arith)) at (kind-enter σ e is-op a (getD depths o 0) depth),
-            rw (add-one (getD depths o 0)) (moved (omega arith) _ _ (kept-again small z (entered a))),
+            rw (ne-eqb (getD depths o 0) 0 (omega arith)) at (kind-enter σ e is-op a lock (getD depths o 0) depth),
+            rw (add-one (getD depths o 0)) (moved _ _ (kept-again small z (entered a))),
           )
 
     -- ---- releases
@@ -117,12 +121,12 @@ module _ {σ : Trace} {e op : ℕ} {depths : List ℕ} (u : Coming σ e op depth
     module _ (a : op ≡ 3) where
       own : Kept σ e (object σ e) (suc (task σ e)) (getD depths o 0)
       own =
-          let (h, z) = kept-at (omega arith) in
+          let (h, z) = kept-at in
           let held = rw (kept-holds z (task σ e) small) at (leave-held σ (u .sound) e (left a)) in
           rw (eqb→eq h (suc (task σ e)) held) at z
 
-      leave-kind : (k : ℕ) → k ≡ cond (eqb (getD depths o 0) 1) 3 innerKind → k ≡ kind σ e
-      leave-kind k p = p ∙ kind-leave σ e is-op a _ (kept-own small own .0)
+      leave-kind : (k : ℕ) → k ≡ cond (eqb (getD depths o 0) 1) 3 uncountedKind → k ≡ kind σ e
+      leave-kind k p = p ∙ kind-leave σ e is-op a lock _ (kept-own small own .0)
 
       -- A release's lock has a depth above 0.
       pub leave-deep : 0 < getD depths o 0
@@ -141,5 +145,5 @@ module _ {σ : Trace} {e op : ℕ} {depths : List ℕ} (u : Coming σ e op depth
       leave-inner d = (
         omega (arith, u .op-is),
         leave-kind 4 (rw (ne-eqb (getD depths o 0) 1 d)),
-        moved (omega arith) _ _ (kept-lowered small own (left a) d),
+        moved _ _ (kept-lowered small own (left a) d),
       )

@@ -18,8 +18,8 @@ use Rattle.laws.specs.Walked.{LatestEvents, Locksets, Matches}
 use Rattle.laws.proofs.Tests.{or-l, or-r, is-true, equal?}
 use Rattle.laws.proofs.LatestEvents.{latest-set, latest-keep}
 use Rattle.laws.proofs.Locksets.{locksets-held, locksets-acquire, locksets-release, locksets-access}
-use Rattle.laws.specs.EventKinds.{innerKind, kind}
-use Rattle.laws.proofs.EventKinds.{isAcquire-kind, isRelease-kind, isInner-kind}
+use Rattle.laws.specs.EventKinds.{uncountedKind, kind}
+use Rattle.laws.proofs.EventKinds.{isAcquire-kind, isRelease-kind, isUncounted-kind}
 use Rattle.laws.proofs.WellFormed.{WellFormed, lock-lt, release-held}
 use Rattle.laws.proofs.OpenAcquires.{opened-acquire}
 use Rattle.laws.proofs.Matches.{matches-keep, matches-release}
@@ -114,14 +114,14 @@ module _ {σ : Trace} {e k : ℕ} (u : OfKind σ e k) where
     no-acquire-latest d = rw (add-one e) (latest-keep (isAcquire σ) (object σ) e acquires z (no-acquire d))
 
   module _ (table : List ℕ) (m : Matches σ e table) (i : e < length table) where
-    -- An inner event is marked by its own number,
-    pub inner-marked : k ≡ innerKind → Matches σ (e + 1) (set table e e)
-    inner-marked d =
-        let inner = isInner-kind σ e (u .kind-is) (omega (arith, u .op-lt)) ∙ eq-eqb k innerKind d in
-        rw (add-one e) (rw inner at (matches-keep σ e table m (no-release (omega arith)) i))
+    -- An inner event, a start or a join is marked by its own number,
+    pub uncounted-marked : k ≡ uncountedKind → Matches σ (e + 1) (set table e e)
+    uncounted-marked d =
+        let uncounted = isUncounted-kind σ e (u .kind-is) (omega (arith, u .op-lt)) ∙ eq-eqb k uncountedKind d in
+        rw (add-one e) (rw uncounted at (matches-keep σ e table m (no-release (omega arith)) i))
 
     -- and another one that is no release has no match yet.
-    pub no-release-matched : k ≢ 3 → k ≢ innerKind → Matches σ (e + 1) (set table e 0)
+    pub no-release-matched : k ≢ 3 → k ≢ uncountedKind → Matches σ (e + 1) (set table e 0)
     no-release-matched d j =
-        let outer = isInner-kind σ e (u .kind-is) (omega (arith, u .op-lt)) ∙ ne-eqb k innerKind j in
-        rw (add-one e) (rw outer at (matches-keep σ e table m (no-release d) i))
+        let counted = isUncounted-kind σ e (u .kind-is) (omega (arith, u .op-lt)) ∙ ne-eqb k uncountedKind j in
+        rw (add-one e) (rw counted at (matches-keep σ e table m (no-release d) i))

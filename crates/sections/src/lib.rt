@@ -1,5 +1,5 @@
-// What one event does to locks: whether an acquire or release is an outer one, and what the tables of the
-// tasks' locks and of the matches note of it.
+// What one event does to locks: whether the record of an acquire or release is an outer one, and what the
+// tables of the tasks' locks and of the matches note of it.
 ghost use Prim.Native.Nat.{_+_, _*_, _<_, _≤_};
 ghost use mathlib.Core.Path.{_≡_};
 ghost use mathlib.Core.Bool.{cond};
@@ -22,8 +22,9 @@ pub fn held_locks(records: &[u8], e: usize, locksets: &[u64]) -> u64
     locksets[recording::task(records, e) as usize]
 }
 
-// The kind of event e: its operation, or 4 for an inner acquire, whose lock is in the mask of its held locks,
-// or an inner release, whose lock is at a depth above 1. The depths are then those after the event.
+// The kind of event e: its operation, or 4 for a start, a join, an inner acquire, whose lock is in the mask of
+// its held locks, or an inner release, whose lock is at a depth above 1. The depths are then those after the
+// event.
 pub fn kind_of(records: &[u8], e: usize, mask: u64, depths: &mut [u16]) -> u8
     requires { ⌜ (1 ≤ e) × (2 * e ≤ length (now records)) × (e < tableLength)
         × (checkEvents (decodeAll (now records)) .refusal ≡ 0) × (mask ≡ held (decodeAll (now records)) e)
@@ -37,6 +38,9 @@ pub fn kind_of(records: &[u8], e: usize, mask: u64, depths: &mut [u16]) -> u8
         return op;
     }
     let l = recording::object(records, e) as usize;
+    if 64 <= l {
+        return 4;
+    }
     if op == 2 {
         if !recording::in_mask(mask, l as u64) {
             return 2;
@@ -71,7 +75,7 @@ pub fn note_lockset(records: &[u8], e: usize, k: u8, locksets: &mut [u64])
 }
 
 // Notes event e's match: an outer release and the latest outer acquire of its lock are each other's; an inner
-// event is marked by its own number.
+// event, a start or a join is marked by its own number.
 pub fn note_match(records: &[u8], e: usize, k: u8, matches: &mut [u16], acquires: &mut [u16])
     requires { ⌜ (1 ≤ e) × (2 * e ≤ length (now records)) × (e < tableLength)
         × (at (decodeAll (now records)) e .op < 4) × (k ≡ kind (decodeAll (now records)) e)

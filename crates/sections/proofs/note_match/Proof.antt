@@ -8,7 +8,7 @@ use Rattle.model.specs.Recording.{decodeAll}
 use Rattle.laws.proofs.Trace.{record-event}
 use Rattle.laws.proofs.Questions.{events-sound}
 use Rattle.sections.proofs.Locks.{OfKind, lock-bound, opened-bound, release-matched, acquire-latest}
-use Rattle.sections.proofs.Locks.{no-acquire-latest, inner-marked, no-release-matched}
+use Rattle.sections.proofs.Locks.{no-acquire-latest, uncounted-marked, no-release-matched}
 use Rattle.sections.proofs.note_match.Statement.{statement}
 use Rattle.sections.proofs.note_match.Tie as tie
 
@@ -94,7 +94,7 @@ returns-2 : tie.Need-returns-2
 returns-2 c =
     let s = c .before .before .before .before .before .before in (
       search needs,
-      inner-marked (known s) (s .args .matches .now) (s .pre .8) (search needs) (c .if2 .taken),
+      uncounted-marked (known s) (s .args .matches .now) (s .pre .8) (search needs) (c .if2 .taken),
       no-acquire-latest (known s) (c .before .before .object .ensures) (s .args .acquires .now) (s .pre .6)
           (s .pre .9) (omega (arith, c .if2 .taken)),
     )
