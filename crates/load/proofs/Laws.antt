@@ -11,12 +11,12 @@ use lib.Dec.{ltb}
 use lib.ListN.{length, length-append}
 use borrow.Author.Tests.{eq-eqb, ne-eqb, lt-ltb, le-ltb}
 use Rattle.model.specs.Lists.{filter, from}
-use Rattle.model.specs.Trace.{Trace, at, object}
+use Rattle.model.specs.Trace.{Trace, locks, at, object}
 use Rattle.model.specs.Calls.Load.{isHeldAfter, percent}
 use Rattle.laws.specs.Walked.{LockDepth}
 use Rattle.laws.proofs.Tests.{decided}
 use Rattle.laws.proofs.Filters.{filter-counts}
-use Rattle.laws.proofs.Faults.{enters-is, leaves-is, accesses-is}
+use Rattle.laws.proofs.Operations.{enters-is, leaves-is, accesses-is}
 use Rattle.laws.proofs.WellFormed.{WellFormed}
 use Rattle.laws.proofs.LockDepth.{lockDepth-access, lockDepth-apart, lockDepth-enter, lockDepth-leave}
 use Rattle.laws.proofs.LockDepth.{lockDepth-any, lockDepth-fits}
@@ -45,20 +45,23 @@ module _ {σ : Trace} {e op l d : ℕ} (u : Coming σ e op l d) where
     pub other-depth : o ≢ l → LockDepth σ (e + 1) l d
     other-depth n = rw (add-one e) (lockDepth-apart σ (λ r. n (q ∙ r)) (u .depth-is))
 
-    module _ (r : o ≡ l) where
+    module _ (r : o ≡ l) (b : l < locks) where
+      lock : object σ e < locks
+      lock = rw (sym r ∙ q) at b
+
       own : LockDepth σ e (object σ e) d
       own = rw (sym r ∙ q) at (u .depth-is)
 
       -- An acquire of the lock goes one deeper.
       pub enter-depth : op ≡ 2 → LockDepth σ (e + 1) l (d + 1)
       enter-depth a =
-          let entered = enters-is σ e (u .op-is .1) a in
+          let entered = enters-is σ e (u .op-is .1) lock a in
           rw (add-one e, add-one d, sym r ∙ q) (lockDepth-enter σ (u .sound) entered own .1)
 
       -- A release goes back by one, from a depth above 0.
       pub leave-depth : 2 ≤ op → op ≢ 2 → (0 < d) × LockDepth σ (e + 1) l (d - 1)
       leave-depth a n =
-          let left = leaves-is σ e (u .op-is .1) (omega (arith, u .op-is)) in
+          let left = leaves-is σ e (u .op-is .1) lock (omega (arith, u .op-is)) in
           let (_, deep, after) = lockDepth-leave σ (u .sound) left own in
           (deep, rw (add-one e, sym r ∙ q) after)
 

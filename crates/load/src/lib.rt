@@ -2,6 +2,7 @@
 ghost use Prim.Native.Nat.{_+_, _*_, _<_, _≤_};
 ghost use mathlib.Core.Path.{_≡_};
 ghost use lib.ListN.{length};
+ghost use Rattle.model.specs.Trace.{locks};
 ghost use Rattle.model.specs.Recording.{decodeAll};
 ghost use Rattle.model.specs.Calls.Check.{checkEvents};
 ghost use Rattle.model.specs.Calls.Load.{heldEvents, percent, load};
@@ -12,7 +13,7 @@ ghost use Rattle.laws.specs.Walked.{LockDepth};
 fn depth_after(records: &[u8], e: usize, lock: u64, depth: u16) -> u16
     requires { ⌜ (1 ≤ e) × (2 * e ≤ length (now records)) × (length (now records) ≤ recordsLength)
         × (checkEvents (decodeAll (now records)) .refusal ≡ 0)
-        × LockDepth (decodeAll (now records)) e lock depth ⌝ }
+        × LockDepth (decodeAll (now records)) e lock depth × (lock < locks) ⌝ }
     ensures { λ r. ⌜ LockDepth (decodeAll (now (records .entry))) (e + 1) lock r ⌝ }
 {
     let op = recording::operation(records, e);
@@ -31,7 +32,7 @@ fn depth_after(records: &[u8], e: usize, lock: u64, depth: u16) -> u16
 // How many events there are after which some task holds the lock.
 fn count_held(records: &[u8], lock: u64) -> u64
     requires { ⌜ (length (now records) ≤ recordsLength)
-        × (checkEvents (decodeAll (now records)) .refusal ≡ 0) ⌝ }
+        × (checkEvents (decodeAll (now records)) .refusal ≡ 0) × (lock < locks) ⌝ }
     ensures { λ r. ⌜ (r < tableLength)
         × (r ≡ heldEvents (decodeAll (now (records .entry))) lock) ⌝ }
 {

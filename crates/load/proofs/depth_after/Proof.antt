@@ -46,15 +46,14 @@ add-result c =
 returns-3 : tie.Need-returns-3
 returns-3 c =
     enter-depth (unpacked (c .before .before .before .before)) (c .before .before .object .ensures .1)
-    (c .before .if2 .left)
-    (c .if3 .taken)
+    (c .before .if2 .left) (c .before .before .before .before .before .before .pre .5) (c .if3 .taken)
 
 -- What a release does.
 back : (c : tie.Else3) → let a = c .before .before .before .before .before .before .args in
     (0 < a .depth) × LockDepth (decodeAll (a .records .now)) (a .e + 1) (a .lock) (a .depth - 1)
 back c =
     leave-depth (unpacked (c .before .before .before .before)) (c .before .before .object .ensures .1)
-    (c .before .if2 .left)
+    (c .before .if2 .left) (c .before .before .before .before .before .before .pre .5)
     (omega (arith, c .before .before .before .if1 .left)) (c .if3 .left)
 
 sub-result : tie.Need-sub-result

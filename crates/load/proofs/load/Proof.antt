@@ -1,4 +1,5 @@
--- `load::load` meets its contract: questions 1 to 7, then 14, then the count of events. Assumes nothing.
+-- `load::load` meets its contract: the recording's questions, then 14, then the count of events.
+-- Assumes nothing.
 use mathlib.Core.Path.{_≡_, sym, ap, _∙_}
 use native.Mathlib.Omega.{arith}
 use borrow.Author.Needs.{needs}
@@ -58,7 +59,11 @@ count-held-requires : tie.Need-count-held-requires
 count-held-requires c κs =
     let b = c .before .before .before .before .before .before .before .args .recording .now in
     let ok = accepted (c .before .before .before) in
-    (omega (arith, c .before .event-count .ensures, part-length b ok), part-accepted b ok)
+    (
+      omega (arith, c .before .event-count .ensures, part-length b ok),
+      part-accepted b ok,
+      c .before .before .if2 .left,
+    )
 
 percentage-requires : tie.Need-percentage-requires
 percentage-requires c κs = search needs
