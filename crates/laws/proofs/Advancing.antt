@@ -9,13 +9,14 @@ use lib.Dec.{T}
 use lib.ListN.{getD, set, length-set}
 use lib.Seq.{getD-set-same, getD-set-other}
 use Rattle.model.specs.Trace.{Trace, tasks, locks, task, object, isAcquire}
-use Rattle.model.specs.Relations.{predecessor, writer, joined, matching}
+use Rattle.model.specs.Relations.{predecessor, matching}
 use Rattle.model.specs.Closed.{Direct, predecessor-is, writer-is, joined-is}
-use Rattle.laws.specs.Walked.{previous}
+use Rattle.laws.specs.Walked.{previous, awaited}
 use Rattle.laws.specs.Frontier.{Frontier, Behind, Visited, Advancing}
 use Rattle.laws.proofs.Tests.{equal?}
 use Rattle.laws.proofs.Trace.{sameTask-iff}
 use Rattle.laws.proofs.Relations.{previous-latest, previous-below, previous-own, predecessor-previous}
+use Rattle.laws.proofs.Awaited.{writer-awaited, joined-awaited}
 use Rattle.laws.proofs.WellFormed.{WellFormed}
 
 module _ (σ : Trace) (front : List ℕ) (t old f : ℕ) (is-task : task σ f ≡ t) where
@@ -73,16 +74,17 @@ module _ (σ : Trace) (ok : WellFormed σ) (front want latest : List ℕ) (t old
   abbrev pub Needed : List ℕ → Type 0
   Needed want′ = (x : ℕ) → Direct σ f x → x ≢ 0 → x ≤ getD want′ (task σ x) 0
 
-  -- So it is where its writer and what it joins are wanted, and of its task's first event the start: another
-  -- event has its predecessor in its own task, behind the frontier.
+  -- So it is where what it awaits is wanted, and of its task's first event the start: another event has its
+  -- predecessor in its own task, behind the frontier.
   pub needed : (want′ : List ℕ) → task σ f < tasks → ((u : ℕ) → getD want u 0 ≤ getD want′ u 0)
-      → (writer σ f ≢ 0 → writer σ f ≤ getD want′ (task σ (writer σ f)) 0)
-      → (joined σ f ≢ 0 → joined σ f ≤ getD want′ (task σ (joined σ f)) 0)
+      → (awaited σ f ≢ 0 → awaited σ f ≤ getD want′ (task σ (awaited σ f)) 0)
       → (previous σ f ≡ 0 → predecessor σ f ≢ 0
       → predecessor σ f ≤ getD want′ (task σ (predecessor σ f)) 0) → Needed want′
-  needed want′ small grows written joins starts x (writer-is q) d = rw q (written (rw q at d))
-  needed want′ small grows written joins starts x (joined-is q) d = rw q (joins (rw q at d))
-  needed want′ small grows written joins starts x (predecessor-is q) d =
+  needed want′ small grows awaits starts x (writer-is q) d =
+      let same : x ≡ awaited σ f = q ∙ writer-awaited σ f (rw q at d) in rw same (awaits (rw same at d))
+  needed want′ small grows awaits starts x (joined-is q) d =
+      let same : x ≡ awaited σ f = q ∙ joined-awaited σ f (rw q at d) in rw same (awaits (rw same at d))
+  needed want′ small grows awaits starts x (predecessor-is q) d =
       rw q (⊎-elim (λ (n : previous σ f ≡ 0). starts n (rw q at d))
       (λ (n : previous σ f ≢ 0). rw (predecessor-previous σ f n, previous-own σ f n) (omega (
         arith,

@@ -44,27 +44,12 @@ module _ (σ : Trace) (ok : WellFormed σ) where
   module _ (front want latest : List ℕ) (t old f : ℕ) (z : Advancing σ front want latest t old f)
       (given : List ℕ)
       (entails : Entails σ given want) where
-    -- What an event behind the frontier needs by itself follows from it,
+    -- What an event behind the frontier needs by itself follows from it.
     pub direct-entailed : Behind σ front f → (x : ℕ) → Direct σ f x → x ≢ 0 → (u : ℕ) → u < length want
         → Entails σ given (raised want u x)
     direct-entailed b x n d u l =
         raised-entails σ given want u x l entails
         (λ v c h. c .direct f x (behind-in front want (z .want-ok) (z .ahead) v c h f b) n d)
-
-    -- so its writer,
-    pub writer-entailed : Behind σ front f → writer σ f ≢ 0 → (u : ℕ) → u < length want
-        → Entails σ given (raised want u (writer σ f))
-    writer-entailed b d = direct-entailed b (writer σ f) (writer-is refl) d
-
-    -- what it joins,
-    pub joined-entailed : Behind σ front f → joined σ f ≢ 0 → (u : ℕ) → u < length want
-        → Entails σ given (raised want u (joined σ f))
-    joined-entailed b d = direct-entailed b (joined σ f) (joined-is refl) d
-
-    -- and its predecessor, be it its task's start.
-    pub predecessor-entailed : Behind σ front f → predecessor σ f ≢ 0 → (u : ℕ) → u < length want
-        → Entails σ given (raised want u (predecessor σ f))
-    predecessor-entailed b d = direct-entailed b (predecessor σ f) (predecessor-is refl) d
 
     -- So does the match of the earlier of two acquires of one lock.
     pub match-entailed : (a b : ℕ) → Again σ a b → Behind σ front a → Behind σ front b → (u : ℕ) → u <

@@ -1,6 +1,6 @@
 -- Starts and joins of a well-formed trace: a task is started once, before its events, and none of these comes
 -- after its join. Assumes nothing.
-use Prim.Native.Nat.{ℕ, suc, _-_, _≤_, _<_}
+use Prim.Native.Nat.{ℕ, zero, suc, _-_, _≤_, _<_}
 use mathlib.Core.Path.{_≡_, refl, sym, ap, _∙_}
 use mathlib.Core.Logic.{_⊎_, inl, inr, ⊎-elim, _≢_}
 use mathlib.Core.Bool.{Bool, true, not, _&&_}
@@ -12,12 +12,16 @@ use Rattle.model.specs.Tasks.{isStart, isJoin, target, starts, joins, belongs}
 use Rattle.model.specs.Relations.{latestOf, startOf, joinOf, lastOf, predecessor, joined}
 use Rattle.model.specs.WellFormed.{isNew, isOver, joinsOwn}
 use Rattle.laws.proofs.Tests.{parts, and-l, and-i, or-l, or-r, not-or, eq→eqb, equal?, at-most?}
-use Rattle.laws.specs.Walked.{previous}
-use Rattle.laws.proofs.Trace.{task-event}
+use Rattle.laws.specs.Walked.{previous, startIn}
+use Rattle.model.specs.Closed.{Closed}
+use Rattle.laws.proofs.Searches.{Latest}
+use Rattle.laws.proofs.Trace.{task-event, sameTask-iff}
 use Rattle.laws.proofs.Tasks.{start-event, join-event, starts-iff, joins-iff, belongs-iff, start-join}
 use Rattle.laws.proofs.LastEvents.{latestOf-most, latestOf-latest, latestOf-task, startOf-latest}
 use Rattle.laws.proofs.LastEvents.{joinOf-latest, lastOf-own, lastOf-start}
 use Rattle.laws.proofs.Relations.{previous-own, joined-last, predecessor-previous, predecessor-start}
+use Rattle.laws.proofs.Relations.{previous-latest, predecessor-below}
+use Rattle.laws.proofs.Closed.{closed-predecessor}
 use Rattle.laws.proofs.WellFormed.{WellFormed, unless-not, answers, sync-lt}
 
 not-not : (a : Bool) → T (not (not a)) → T a
@@ -152,6 +156,47 @@ module _ (σ : Trace) (ok : WellFormed σ) where
             rw (predecessor-previous σ e d) (inr (omega arith, previous-own σ e d)))
             (equal? (previous σ e) 0),
       )
+
+  -- The predecessor of a task's first event is the task's start, where it has one.
+  pub predecessor-first : (e : ℕ) → 1 ≤ e → e ≤ length σ → previous σ e ≡ 0
+      → predecessor σ e ≡ startIn σ (task σ e)
+  predecessor-first e h k none = ⊎-elim unstarted started (equal? (startIn σ (task σ e)) 0)
+    where
+      all : Latest (suc (length σ)) (starts σ (task σ e)) (startIn σ (task σ e))
+      all = startOf-latest σ (suc (length σ)) (task σ e)
+
+      unstarted : startIn σ (task σ e) ≡ 0 → predecessor σ e ≡ startIn σ (task σ e)
+      unstarted q =
+          let earlier = startOf-latest σ e (task σ e) in
+          predecessor-start σ e none ∙ ⊎-elim (λ z. z ∙ sym q)
+          (λ d. absurd (omega (
+            arith,
+            earlier .below d,
+            all .latest (startOf σ e (task σ e)) (omega (arith, earlier .below d)) (earlier .passes d),
+          )))
+          (equal? (startOf σ e (task σ e)) 0)
+
+      started : startIn σ (task σ e) ≢ 0 → predecessor σ e ≡ startIn σ (task σ e)
+      started d =
+          let (_, _, r) = predecessor-begun e (startIn σ (task σ e)) (all .passes d) in
+          ⊎-elim sym (λ (some, same). absurd (omega (
+            arith,
+            previous-latest σ e .latest (predecessor σ e) (omega (arith, predecessor-below σ e))
+                (sameTask-iff σ e (predecessor σ e) .1 (sym same)),
+          ))) r
+
+  -- A closed set has, with an event, the start of its task.
+  pub closed-start : {v : ℕ → Type 0} → Closed σ v → (e s : ℕ) → v e → T (starts σ (task σ e) s) → v s
+  closed-start {v} c e s h t = go e e h t (omega arith)
+    where
+      go : (n e : ℕ) → v e → T (starts σ (task σ e) s) → e ≤ n → v s
+      go zero e h t b = absurd (omega (arith, predecessor-begun e s t))
+      go (suc n) e h t b =
+          let (positive, early, r) = predecessor-begun e s t in
+          let p = predecessor σ e in
+          ⊎-elim (λ (q : s ≡ p). rw q (closed-predecessor σ c e h (omega arith)))
+          (λ (some, q). go n p (closed-predecessor σ c e h (omega arith)) (rw q t)
+          (omega (arith, predecessor-below σ e))) r
 
   -- An event of a joined task, or its start, is earlier than the join, and it is what the join waits for, or
   -- belongs to that one's task and is earlier.

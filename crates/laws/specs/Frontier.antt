@@ -9,7 +9,7 @@ use mathlib.Core.List.{List}
 use lib.Dec.{T, eqb, leb, ltb}
 use lib.ListN.{length, getD, set}
 use Rattle.model.specs.Trace.{Trace, tasks, locks, task, object, isAcquire}
-use Rattle.model.specs.Relations.{predecessor, writer, joined, matching}
+use Rattle.model.specs.Relations.{matching}
 use Rattle.model.specs.EventSet.{has}
 use Rattle.model.specs.Closed.{Direct, Closed}
 use Rattle.model.specs.Pattern.{closureBefore}
@@ -64,11 +64,6 @@ raised want t e = cond (ltb (getD want t 0) e) (set want t e) want
 -- The frontier with event x of whatever task, where not 0.
 abbrev pub wanted : Trace → List ℕ → ℕ → List ℕ
 wanted σ want x = cond (eqb x 0) want (raised want (task σ x) x)
-
--- The frontier with what event f needs by itself: writer, what it joins, and predecessor, which for its
--- task's first event is the start, of another task.
-unfoldable pub wantedDirect : Trace → List ℕ → ℕ → List ℕ
-wantedDirect σ want f = wanted σ (wanted σ (wanted σ want (writer σ f)) (joined σ f)) (predecessor σ f)
 
 -- The frontier is that of the smallest closed set that has the given one's events.
 pub record Advanced (σ : Trace) (given front latest : List ℕ) : Type 0 where

@@ -1,5 +1,6 @@
 -- Definitions for the contracts of inner functions: what the tables of a walk hold, the shapes of answers,
 -- frontiers, rows of bits, chains and their search, and sizes. No call's contract names one.
+pub mod Sizes
 pub mod EventKinds
 pub mod Walked
 pub mod Answered
@@ -8,4 +9,3 @@ pub mod BitRow
 pub mod Chain
 pub mod Walk
 pub mod Returning
-pub mod Sizes

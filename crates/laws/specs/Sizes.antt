@@ -9,3 +9,7 @@ recordsLength = 8190
 -- How long a table of events is: an entry for each event number from 0 to 4,095.
 abbrev pub tableLength : ℕ
 tableLength = 4096
+
+-- How long the table of predecessors is: behind the events it has an entry for each task, with its start.
+abbrev pub orderLength : ℕ
+orderLength = 4112

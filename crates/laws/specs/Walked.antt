@@ -1,21 +1,32 @@
 -- What the tables of a walk hold right before event e, in terms of the relations: the holder and the depth of
 -- a lock, the locks of each task, the latest event of each kind, and the matches. How one event changes them
 -- is in proofs/LatestEvents, Holders, Kept, LockDepth, Locksets and Matches.
-use Prim.Native.Nat.{ℕ, suc, _-_, _^_, _≤_, _<_}
+use Prim.Native.Nat.{ℕ, suc, _+_, _-_, _^_, _≤_, _<_}
 use mathlib.Core.Path.{_≡_}
 use mathlib.Core.Bool.{Bool, cond, _&&_}
 use mathlib.Core.List.{List}
 use lib.Dec.{eqb}
 use lib.ListN.{length, getD}
 use Rattle.model.specs.Lists.{lastBefore, firstFrom, hasBit}
-use Rattle.model.specs.Trace.{Trace, tasks, locks, task, sameTask, sameObject, depth, isAcquire, isRelease}
-use Rattle.model.specs.Relations.{latestOf, acquireOf, holds}
+use Rattle.model.specs.Trace.{Trace, tasks, locks, task, isRead, sameTask, sameObject, depth, isAcquire}
+use Rattle.model.specs.Trace.{isRelease}
+use Rattle.model.specs.Relations.{latestOf, startOf, writer, joined, acquireOf, holds}
+use Rattle.laws.specs.Sizes.{tableLength}
 use Rattle.laws.specs.EventKinds.{isUncounted}
 
 -- Thread order alone: the latest earlier event of the event's task, or 0. The predecessor is this, or where
 -- it is 0 the task's start.
 abbrev pub previous : Trace → ℕ → ℕ
 previous σ e = latestOf σ e (task σ e)
+
+-- The start of task t, or 0.
+abbrev pub startIn : Trace → ℕ → ℕ
+startIn σ t = startOf σ (suc (length σ)) t
+
+-- What an event awaits besides its predecessor: a read its writer, a join what it waits for, and another event
+-- nothing, 0. One table has both, since no read is a join.
+unfoldable pub awaited : Trace → ℕ → ℕ
+awaited σ e = cond (isRead σ e) (writer σ e) (joined σ e)
 
 -- Lock l has task h - 1 at depth d as its holder, or none where h and d are 0 (02: the record kept for each
 -- lock is holder and depth).
@@ -60,6 +71,10 @@ pub record Locksets (σ : Trace) (e : ℕ) (table : List ℕ) : Type 0 where
 -- For each key x the latest event before e that passes the test and has this key, or 0.
 pub record LatestEvents (test : ℕ → Bool) (key : ℕ → ℕ) (e : ℕ) (table : List ℕ) : Type 0 where
   pub at : (x : ℕ) → x < length table → getD table x 0 ≡ lastBefore e (λ f. test f && eqb x (key f))
+
+-- Behind the events, for each task its start before e, or 0.
+pub record Starts (σ : Trace) (e : ℕ) (table : List ℕ) : Type 0 where
+  pub at : (t : ℕ) → t < tasks → getD table (tableLength + t) 0 ≡ startOf σ e t
 
 -- For each event before e what the relation gives.
 pub record Filled (relation : ℕ → ℕ) (e : ℕ) (table : List ℕ) : Type 0 where
