@@ -1,11 +1,11 @@
 -- What an event awaits besides its predecessor: a read its writer, and a join what it waits for.
 -- Assumes nothing.
 use Prim.Native.Nat.{ℕ, _-_, _≤_}
-use mathlib.Core.Path.{_≡_, refl, sym}
+use mathlib.Core.Path.{_≡_, refl, sym, _∙_}
 use mathlib.Core.Logic.{_≢_}
-use mathlib.Core.Bool.{true, false}
+use mathlib.Core.Bool.{true, false, cond}
 use native.Mathlib.Omega.{arith}
-use lib.Dec.{T}
+use lib.Dec.{T, eqb}
 use borrow.Author.Tests.{eqb-true}
 use Rattle.model.specs.Trace.{Trace, at, isRead, isAcquire}
 use Rattle.model.specs.Tasks.{isJoin}
@@ -13,8 +13,8 @@ use Rattle.model.specs.Relations.{writer, joined}
 use Rattle.model.specs.Closed.{Direct, writer-is, joined-is}
 use Rattle.laws.specs.Walked.{awaited}
 use Rattle.laws.proofs.Tests.{decided, is-true}
-use Rattle.laws.proofs.Relations.{writer-read, joined-none}
-use Rattle.laws.proofs.Operations.{isJoin-none}
+use Rattle.laws.proofs.Relations.{writer-read, writer-none, joined-none}
+use Rattle.laws.proofs.Operations.{isRead-op, isJoin-none}
 use Rattle.laws.proofs.Closed.{direct-below}
 
 module _ (σ : Trace) (e : ℕ) where
@@ -32,6 +32,13 @@ module _ (σ : Trace) (e : ℕ) where
   pub awaited-none : isRead σ e ≡ false → isJoin σ e ≡ false → awaited σ e ≡ 0
   unfolding awaited
   awaited-none n m = rw n (joined-none σ e m)
+
+  -- So its operation tells the writer off it.
+  pub writer-off : cond (eqb (at σ e .op) 0) (awaited σ e) 0 ≡ writer σ e
+  writer-off =
+      decided (isRead σ e)
+      (λ y. rw (sym (isRead-op σ e refl) ∙ y) (awaited-read y))
+      (λ n. rw (sym (isRead-op σ e refl) ∙ n) (sym (writer-none σ e n)))
 
   -- What is awaited is needed,
   pub awaited-direct : Direct σ e (awaited σ e)

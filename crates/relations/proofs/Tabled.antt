@@ -10,13 +10,17 @@ use lib.Count.{ones, ones-le}
 use lib.ListN.{length, getD, replicate, length-replicate}
 use Rattle.model.specs.Trace.{Trace, tasks, locks, variables, at, task, object, isWrite, isAcquire}
 use Rattle.model.specs.Recording.{decodeAll}
-use Rattle.model.specs.Relations.{predecessor, writer, held}
+use Rattle.model.specs.Relations.{predecessor, held}
 use Rattle.model.specs.declared.Relations.{Relations}
 use Rattle.laws.specs.Answered.{eventRelations}
 use Rattle.laws.proofs.Trace.{decodeAll-length}
+use Rattle.laws.specs.Sizes.{tableLength}
+use Rattle.laws.specs.Walked.{awaited}
 use Rattle.laws.proofs.LatestEvents.{latest-start, filled-start}
+use Rattle.laws.proofs.Starts.{starts-start}
+use Rattle.laws.proofs.Awaited.{writer-off}
 use Rattle.laws.proofs.Locksets.{locksets-start}
-use Rattle.laws.proofs.Relations.{predecessor-below, writer-below, held-lt}
+use Rattle.laws.proofs.Relations.{predecessor-below, held-lt}
 use Rattle.laws.proofs.Marks.{marked-match}
 use Rattle.laws.proofs.Matches.{matches-start, matches-end}
 use Rattle.laws.proofs.Kept.{keptDepths-start}
@@ -25,9 +29,10 @@ use Rattle.relations.specs.Tables.{operation, Tables, Long, Noted}
 -- Before event 1 the tables are clear.
 pub noted-start : (σ : Trace) (operations owners objects holding predecessors writers matches : List ℕ)
     → Long operations owners objects holding predecessors writers matches
+    → ((t : ℕ) → t < tasks → getD predecessors (tableLength + t) 0 ≡ 0)
     → Noted σ 1 operations owners objects holding predecessors writers matches
     (replicate tasks 0) (replicate variables 0) (replicate locks 1) (replicate tasks 0) (replicate locks 0)
-noted-start σ operations owners objects holding predecessors writers matches long = record {
+noted-start σ operations owners objects holding predecessors writers matches long clear = record {
   long = long;
   working = record {
     latest-long = refl;
@@ -39,7 +44,8 @@ noted-start σ operations owners objects holding predecessors writers matches lo
   object-filled = filled-start (object σ) objects;
   held-filled = filled-start (held σ) holding;
   predecessor-filled = filled-start (predecessor σ) predecessors;
-  writer-filled = filled-start (writer σ) writers;
+  start-filled = starts-start σ predecessors clear;
+  writer-filled = filled-start (awaited σ) writers;
   matching-filled = matches-start σ matches;
   latest-event = latest-start (λ f. true) (task σ) tasks;
   latest-write = latest-start (isWrite σ) (object σ) variables;
@@ -64,6 +70,7 @@ noted-end b e {matches = matches} z h k = record {
   object-at = λ f i j. z .object-filled .at f i (omega (arith, decodeAll-length b));
   held-at = λ f i j. z .held-filled .at f i (omega (arith, decodeAll-length b));
   predecessor-at = λ f i j. z .predecessor-filled .at f i (omega (arith, decodeAll-length b));
+  start-at = rw last at (z .start-filled);
   writer-at = λ f i j. z .writer-filled .at f i (omega (arith, decodeAll-length b));
   matching-at = matches-end (decodeAll b) matches (rw last at (z .matching-filled));
 }
@@ -84,7 +91,7 @@ module _ {σ : Trace} {operations tasks objects holding predecessors writers mat
         held = getD holding e 0;
         locks = ones (getD holding e 0);
         matching = cond (eqb (getD matches e 0) e) 0 (getD matches e 0);
-        writer = getD writers e 0;
+        writer = cond (eqb (getD operations e 0) 0) (getD writers e 0) 0;
         predecessor = getD predecessors e 0;
       })
       (eventRelations σ e)
@@ -92,19 +99,17 @@ module _ {σ : Trace} {operations tasks objects holding predecessors writers mat
       rw (
         z .held-at e h k,
         z .matching-at e h k,
+        z .operation-at e h k,
         z .writer-at e h k,
         z .predecessor-at e h k,
         ← (marked-match σ e h),
+        ← (writer-off σ e),
       )
 
   -- The number of held locks fits,
   pub locks-fit : ones (getD holding e 0) ≤ 64
   locks-fit = rw (z .held-at e h k) (ones-le 64 (held σ e) (held-lt σ e))
 
-  -- and so do the number of the writer
-  pub writer-fits : getD writers e 0 ≤ length σ
-  writer-fits = rw (z .writer-at e h k) (omega (arith, writer-below σ e))
-
-  -- and that of the predecessor.
+  -- and so does the number of the predecessor.
   pub predecessor-fits : getD predecessors e 0 ≤ length σ
   predecessor-fits = rw (z .predecessor-at e h k) (omega (arith, predecessor-below σ e))

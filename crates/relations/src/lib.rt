@@ -1,15 +1,17 @@
 // The relations of a recording's events: tables of all of them, filled in one pass over its records, and the
-// call that gives those of one event. Tables are lent, and have an entry for each event number to 4,095.
+// call that gives those of one event. Tables are lent, and have an entry for each event number to 4,095, that
+// of predecessors also one for each task.
 ghost use Prim.Native.Nat.{_+_, _*_, _/_, _<_, _≤_};
 ghost use mathlib.Core.Path.{_≡_};
-ghost use mathlib.Core.Bool.{true};
+ghost use mathlib.Core.Bool.{cond};
+ghost use lib.Dec.{eqb};
 ghost use lib.ListN.{length};
-ghost use Rattle.model.specs.Trace.{tasks, locks, variables, task, object, isWrite, isAcquire};
+ghost use Rattle.model.specs.Trace.{locks, task, object, isAcquire};
 ghost use Rattle.model.specs.Recording.{decodeAll};
-ghost use Rattle.model.specs.Relations.{predecessor, writer, held};
+ghost use Rattle.model.specs.Relations.{held};
 ghost use Rattle.model.specs.Calls.Check.{checkEvents};
 ghost use Rattle.model.specs.Calls.Relations.{relations};
-ghost use Rattle.laws.specs.Sizes.{recordsLength, tableLength};
+ghost use Rattle.laws.specs.Sizes.{recordsLength, tableLength, orderLength};
 ghost use Rattle.laws.specs.Answered.{refusedRelations, eventRelations};
 ghost use Rattle.laws.specs.Walked.{Filled, LatestEvents, KeptDepths, Locksets, Matches};
 ghost use Rattle.relations.specs.Tables.{operation, Tables, Noted};
@@ -38,46 +40,6 @@ fn note_record(
     operations[e] = op;
     tasks[e] = t;
     objects[e] = o;
-}
-
-// Notes event e's predecessor: the latest event of its task.
-fn note_task(records: &[u8], e: usize, predecessors: &mut [u16], latest: &mut [u16])
-    requires { ⌜ (1 ≤ e) × (2 * e ≤ length (now records)) × (e < tableLength)
-        × (length (now predecessors) ≡ tableLength) × (length (now latest) ≡ tasks)
-        × Filled (predecessor (decodeAll (now records))) e (now predecessors)
-        × LatestEvents (λ f. true) (task (decodeAll (now records))) e (now latest) ⌝ }
-    ensures { λ r. ⌜ (length (now (latest .exit)) ≡ tasks)
-        × Filled (predecessor (decodeAll (now (records .entry)))) (e + 1) (now (predecessors .exit))
-        × LatestEvents (λ f. true) (task (decodeAll (now (records .entry)))) (e + 1) (now (latest .exit)) ⌝ }
-{
-    let t = recording::task(records, e) as usize;
-    predecessors[e] = latest[t];
-    latest[t] = e as u16;
-}
-
-// Notes event e's writer: of a read, the latest write of its variable.
-fn note_access(records: &[u8], e: usize, writers: &mut [u16], writes: &mut [u16])
-    requires { ⌜ (1 ≤ e) × (2 * e ≤ length (now records)) × (e < tableLength)
-        × (length (now writers) ≡ tableLength) × (length (now writes) ≡ variables)
-        × Filled (writer (decodeAll (now records))) e (now writers)
-        × LatestEvents (isWrite (decodeAll (now records))) (object (decodeAll (now records))) e
-        (now writes) ⌝ }
-    ensures { λ r. ⌜ (length (now (writes .exit)) ≡ variables)
-        × Filled (writer (decodeAll (now (records .entry)))) (e + 1) (now (writers .exit))
-        × LatestEvents (isWrite (decodeAll (now (records .entry))))
-        (object (decodeAll (now (records .entry))))
-        (e + 1) (now (writes .exit)) ⌝ }
-{
-    let op = recording::operation(records, e);
-    let v = recording::object(records, e) as usize;
-    if op == 0 {
-        writers[e] = writes[v];
-        return;
-    }
-    writers[e] = 0;
-    if op == 1 {
-        writes[v] = e as u16;
-    }
 }
 
 // Notes what event e does to locks: held locks, match, and the depths.
@@ -145,12 +107,12 @@ fn note_event(
         (now (locksets .exit)) (now (acquires .exit)) ⌝ }
 {
     note_record(records, e, operations, tasks, objects);
-    note_task(records, e, predecessors, latest);
-    note_access(records, e, writers, writes);
+    order::note_order(records, e, predecessors, latest, writers, writes);
     note_locks(records, e, holding, matches, depths, locksets, acquires);
 }
 
-// Fills the tables of the records, whose events are accepted: one pass, each event noted in turn.
+// Fills the tables of the records, whose events are accepted: one pass, each event noted in turn. That of
+// writers also has what joins wait for.
 pub fn fill_tables(
     records: &[u8],
     operations: &mut [u8],
@@ -164,7 +126,7 @@ pub fn fill_tables(
     requires { ⌜ (length (now records) ≤ recordsLength) × (checkEvents (decodeAll (now records)) .refusal ≡ 0)
         × (length (now operations) ≡ tableLength) × (length (now tasks) ≡ tableLength)
         × (length (now objects) ≡ tableLength) × (length (now holding) ≡ tableLength)
-        × (length (now predecessors) ≡ tableLength) × (length (now writers) ≡ tableLength)
+        × (length (now predecessors) ≡ orderLength) × (length (now writers) ≡ tableLength)
         × (length (now matches) ≡ tableLength) ⌝ }
     ensures { λ r. ⌜ Tables (decodeAll (now (records .entry))) (now (operations .exit)) (now (tasks .exit))
         (now (objects .exit)) (now (holding .exit)) (now (predecessors .exit)) (now (writers .exit))
@@ -175,6 +137,7 @@ pub fn fill_tables(
     let mut depths = [1u16; 64];
     let mut locksets = [0u64; 16];
     let mut acquires = [0u16; 64];
+    order::clear_starts(predecessors);
     let mut e = 1;
     while e <= records.len() / 2 {
         note_event(
@@ -212,6 +175,16 @@ fn refused(refusal: u64, event: u64) -> model::Relations
     }
 }
 
+// The writer of an event with this operation, off what it awaits: 0 unless it is a read.
+fn writer_of(operation: u8, awaited: u16) -> u64
+    ensures { λ r. ⌜ r ≡ cond (eqb operation 0) awaited 0 ⌝ }
+{
+    if operation == 0 {
+        return awaited as u64;
+    }
+    0
+}
+
 // The relations of event e of records whose events are accepted, read off the tables.
 fn relations_of(records: &[u8], e: usize) -> model::Relations
     requires { ⌜ (length (now records) ≤ recordsLength) × (checkEvents (decodeAll (now records)) .refusal ≡ 0)
@@ -222,7 +195,7 @@ fn relations_of(records: &[u8], e: usize) -> model::Relations
     let mut tasks = [0u8; 4096];
     let mut objects = [0u16; 4096];
     let mut holding = [0u64; 4096];
-    let mut predecessors = [0u16; 4096];
+    let mut predecessors = [0u16; 4112];
     let mut writers = [0u16; 4096];
     let mut matches = [0u16; 4096];
     fill_tables(
@@ -242,7 +215,7 @@ fn relations_of(records: &[u8], e: usize) -> model::Relations
         held: mask,
         locks: u64::count_ones(mask) as u64,
         matching: sections::unmarked(matches[e], e),
-        writer: writers[e] as u64,
+        writer: writer_of(operations[e], writers[e]),
         predecessor: predecessors[e] as u64,
     }
 }

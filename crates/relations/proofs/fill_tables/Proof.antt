@@ -1,6 +1,7 @@
 -- `relations::fill_tables` meets its contract: before each event the tables have the relations of the earlier
 -- ones. Assumes nothing.
 use Prim.Native.Nat.{_+_, _-_, _/_, _≤_}
+use mathlib.Core.Path.{_∙_}
 use native.Mathlib.Omega.{arith}
 use borrow.Author.Needs.{needs}
 use lib.ListN.{length}
@@ -26,7 +27,7 @@ abbrev μ-loop : tie.MeasureT-loop
 
 -- From the loop's body to the entry,
 abbrev entry : tie.In-loop Inv-loop μ-loop → tie.Start Inv-loop μ-loop
-entry k = k .before .before .before .before .before .before .before .before .before .before
+entry k = k .before .before .before .before .before .before .before .before .before .before .before .before .before .before
 
 -- and from where the event was noted to the body.
 abbrev body : tie.After-note-event Inv-loop μ-loop → tie.In-loop Inv-loop μ-loop
@@ -34,9 +35,13 @@ body c =
     c .before .before .before .before .before .before .before .before .before .before .before .before
     .before
 
+clear-starts-requires : tie.Need-clear-starts-requires Inv-loop μ-loop
+clear-starts-requires c κs = search needs
+
 loop-holds : tie.Need-loop-holds Inv-loop μ-loop
 loop-holds c =
-    let s = c .before .before .before .before .before .before .before .before in (
+    let cleared = c .before .before .clear-starts in
+    let s = c .before .before .before .before .before .before .before .before .before .before .before .before in (
       omega arith,
       omega arith,
       noted-start _ _ _ _ _ _ _ _ (record {
@@ -44,10 +49,10 @@ loop-holds c =
         task-long = s .pre .3;
         object-long = s .pre .4;
         held-long = s .pre .5;
-        predecessor-long = s .pre .6;
+        predecessor-long = cleared .kept .0 ∙ s .pre .6;
         writer-long = s .pre .7;
         matching-long = s .pre .8;
-      }),
+      }) (cleared .ensures),
     )
 
 slice-aggregate-note-event : tie.Need-slice-aggregate-note-event Inv-loop μ-loop
@@ -118,6 +123,7 @@ fill-tables-spec =
     (tie.spec
     Inv-loop
     μ-loop
+    clear-starts-requires
     loop-holds
     slice-aggregate-note-event
     slice-aggregate-note-event-2

@@ -10,41 +10,39 @@ entry c =
     c .before .before .before .before .before .before .before .before .before .before .before .before
     .before .before .before .before .before
 
--- from the task to the record,
-abbrev noted-record : tie.After-note-task → tie.After-note-record
-noted-record c = c .before .before .before .before .before .before .before .before .before
+-- from the order to the record,
+abbrev noted-record : tie.After-note-order → tie.After-note-record
+noted-record c = c .before .before .before .before .before .before .before .before .before .before .before
 
--- from the access to the task,
-abbrev noted-task : tie.After-note-access → tie.After-note-task
-noted-task c = c .before .before .before .before .before .before .before
-
--- and from the locks to the access.
-abbrev noted-access : tie.After-note-locks → tie.After-note-access
-noted-access c = c .before .before .before .before .before .before .before .before .before .before
+-- and from the locks to the order.
+abbrev noted-order : tie.After-note-locks → tie.After-note-order
+noted-order c = c .before .before .before .before .before .before .before .before .before .before .before .before .before .before
 
 note-record-requires : tie.Need-note-record-requires
 note-record-requires c κs = search needs
 
-note-task-requires : tie.Need-note-task-requires
-note-task-requires c κs = search needs
-
-note-access-requires : tie.Need-note-access-requires
-note-access-requires c κs =
-    let s = entry (noted-record (c .before .before .before .before .before .before)) in
+note-order-requires : tie.Need-note-order-requires
+note-order-requires c κs =
+    let s = entry (c .before .before .before .before .before .before .before .before .before .before) in
     let z = s .pre .4 in (
       s .pre .0,
       s .pre .1,
       s .pre .2,
+      s .pre .3,
+      z .long .predecessor-long,
+      z .working .latest-long,
       z .long .writer-long,
       z .working .write-long,
+      z .predecessor-filled,
+      z .start-filled,
+      z .latest-event,
       z .writer-filled,
       z .latest-write,
     )
 
 note-locks-requires : tie.Need-note-locks-requires
 note-locks-requires c κs =
-    let accesses = c .before .before .before .before .before .before .before .before .before in
-    let s = entry (noted-record (noted-task accesses)) in
+    let s = entry (noted-record (c .before .before .before .before .before .before .before .before .before .before .before .before .before)) in
     let z = s .pre .4 in (
       s .pre .0,
       s .pre .1,
@@ -99,34 +97,35 @@ same-length-12 c = search needs
 returns : tie.Need-returns
 returns c =
     let locks = c .before .before .before .before .before .before .before .before .before .before in
-    let accesses = noted-access locks in
-    let tasks = noted-task accesses in
-    let records = noted-record tasks in
+    let order = noted-order locks in
+    let records = noted-record order in
     let z = entry records .pre .4 .long in
+    let w = entry records .pre .4 .working in
     record {
       long = record {
         operation-long = records .note-record .kept .1 .1 .0 ∙ z .operation-long;
         task-long = records .note-record .kept .1 .1 .1 .0 ∙ z .task-long;
         object-long = records .note-record .kept .1 .1 .1 .1 .0 ∙ z .object-long;
         held-long = locks .note-locks .kept .1 .1 .0 ∙ z .held-long;
-        predecessor-long = tasks .note-task .kept .1 .1 .0 ∙ z .predecessor-long;
-        writer-long = accesses .note-access .kept .1 .1 .0 ∙ z .writer-long;
+        predecessor-long = order .note-order .kept .1 .1 .0 ∙ z .predecessor-long;
+        writer-long = order .note-order .kept .1 .1 .1 .1 .0 ∙ z .writer-long;
         matching-long = locks .note-locks .kept .1 .1 .1 .0 ∙ z .matching-long;
       };
       working = record {
-        latest-long = tasks .note-task .ensures .0;
-        write-long = accesses .note-access .ensures .0;
+        latest-long = order .note-order .kept .1 .1 .1 .0 ∙ w .latest-long;
+        write-long = order .note-order .kept .1 .1 .1 .1 .1 .0 ∙ w .write-long;
         acquire-long = locks .note-locks .ensures .0;
       };
       operation-filled = records .note-record .ensures .0;
       task-filled = records .note-record .ensures .1;
       object-filled = records .note-record .ensures .2;
       held-filled = locks .note-locks .ensures .1;
-      predecessor-filled = tasks .note-task .ensures .1;
-      writer-filled = accesses .note-access .ensures .1;
+      predecessor-filled = order .note-order .ensures .0;
+      start-filled = order .note-order .ensures .1;
+      writer-filled = order .note-order .ensures .3;
       matching-filled = locks .note-locks .ensures .2;
-      latest-event = tasks .note-task .ensures .2;
-      latest-write = accesses .note-access .ensures .2;
+      latest-event = order .note-order .ensures .2;
+      latest-write = order .note-order .ensures .4;
       depth = locks .note-locks .ensures .3;
       lockset = locks .note-locks .ensures .4;
       latest-acquire = locks .note-locks .ensures .5;
@@ -137,8 +136,7 @@ note-event-spec =
     tie.close
     (tie.spec
     note-record-requires
-    note-task-requires
-    note-access-requires
+    note-order-requires
     note-locks-requires
     same-length
     same-length-2

@@ -1,4 +1,5 @@
--- `relations::relations` meets its contract: questions 1 to 7, then 9, then the tables. Assumes nothing.
+-- `relations::relations` meets its contract: the recording's questions, then 9, then the tables.
+-- Assumes nothing.
 use mathlib.Core.Path.{_≡_, sym, ap, _∙_}
 use native.Mathlib.Omega.{arith}
 use borrow.Author.Needs.{needs}

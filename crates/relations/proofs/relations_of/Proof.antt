@@ -6,12 +6,7 @@ use lib.ListN.{length}
 use Rattle.model.specs.Recording.{decodeAll}
 use Rattle.laws.proofs.Trace.{decodeAll-length}
 use Rattle.relations.specs.Tables.{Tables}
-use Rattle.relations.proofs.Tabled.{
-  tables-answer,
-  locks-fit,
-  writer-fits,
-  predecessor-fits,
-}
+use Rattle.relations.proofs.Tabled.{tables-answer, locks-fit, predecessor-fits}
 use Rattle.relations.proofs.relations_of.Statement.{statement}
 use Rattle.relations.proofs.relations_of.Tie as tie
 
@@ -87,44 +82,39 @@ array-read-unmarked c = search needs
 unmarked-requires : tie.Need-unmarked-requires
 unmarked-requires c κs = search needs
 
-mul-t35 : tie.Need-mul-t35
-mul-t35 c = search needs
+array-read-writer-of : tie.Need-array-read-writer-of
+array-read-writer-of c = search needs
 
-array-read-t38 : tie.Need-array-read-t38
-array-read-t38 c = search needs
+mul-writer-of : tie.Need-mul-writer-of
+mul-writer-of c = search needs
 
-cast-t39 : tie.Need-cast-t39
-cast-t39 c =
-    let s = start (c .before) in
+array-read-writer-of-2 : tie.Need-array-read-writer-of-2
+array-read-writer-of-2 c = search needs
+
+writer-of-requires : tie.Need-writer-of-requires
+writer-of-requires c κs = search needs
+
+mul-t43 : tie.Need-mul-t43
+mul-t43 c = search needs
+
+array-read-t46 : tie.Need-array-read-t46
+array-read-t46 c = search needs
+
+cast-t47 : tie.Need-cast-t47
+cast-t47 c =
+    let s = start (c .before .before) in
     omega (
       arith,
       s .pre,
       decodeAll-length (s .args .records .now),
-      writer-fits (filled (c .before)) (s .args .e)
-          (s .pre .2) (inside s),
-    )
-
-mul-t40 : tie.Need-mul-t40
-mul-t40 c = search needs
-
-array-read-t43 : tie.Need-array-read-t43
-array-read-t43 c = search needs
-
-cast-t44 : tie.Need-cast-t44
-cast-t44 c =
-    let s = start (c .before) in
-    omega (
-      arith,
-      s .pre,
-      decodeAll-length (s .args .records .now),
-      predecessor-fits (filled (c .before))
-          (s .args .e) (s .pre .2) (inside s),
+      predecessor-fits (filled (c .before .before)) (s .args .e) (s .pre .2) (inside s),
     )
 
 returns : tie.Need-returns
 returns c =
-    let s = start (c .before) in
-    rw (c .unmarked .ensures) (tables-answer (filled (c .before)) (s .args .e) (s .pre .2) (inside s))
+    let s = start (c .before .before) in
+    rw (c .before .unmarked .ensures, c .writer-of .ensures)
+    (tables-answer (filled (c .before .before)) (s .args .e) (s .pre .2) (inside s))
 
 pub relations-of-spec : {M : Type 1} → statement M
 relations-of-spec =
@@ -144,10 +134,11 @@ relations-of-spec =
     mul-unmarked
     array-read-unmarked
     unmarked-requires
-    mul-t35
-    array-read-t38
-    cast-t39
-    mul-t40
-    array-read-t43
-    cast-t44
+    array-read-writer-of
+    mul-writer-of
+    array-read-writer-of-2
+    writer-of-requires
+    mul-t43
+    array-read-t46
+    cast-t47
     returns)
