@@ -1,23 +1,21 @@
--- What visiting an event leaves, by its operation and the latest acquire of its lock, and what it reads.
--- Assumes nothing.
+-- What visiting an event leaves, by its operation and the latest acquire of its lock. Assumes nothing.
 use Prim.Native.Nat.{ℕ, _*_, _≤_, min}
 use mathlib.Core.Path.{_≡_, refl, sym, _∙_}
-use mathlib.Core.Bool.{true, false, true≢false}
+use mathlib.Core.Bool.{true, false}
 use mathlib.Core.Logic.{_≢_}
 use mathlib.Core.List.{List}
 use native.Mathlib.Omega.{arith}
 use lib.ListN.{length, getD}
-use borrow.Author.Tests.{eq-eqb, ne-eqb, eqb-true}
-use Rattle.model.specs.Trace.{Trace, at, task, object, isRead, isAcquire}
-use Rattle.model.specs.Relations.{writer}
+use borrow.Author.Tests.{eq-eqb, ne-eqb}
+use Rattle.model.specs.Trace.{Trace, task, object, isAcquire}
 use Rattle.model.specs.Recording.{decodeAll}
 use Rattle.laws.specs.EventKinds.{marked}
-use Rattle.laws.specs.Frontier.{raised}
-use Rattle.laws.proofs.Tests.{decided}
-use Rattle.laws.proofs.Relations.{writer-below}
-use Rattle.laws.proofs.Faults.{isRead-op, isAcquire-none}
-use Rattle.laws.proofs.Marks.{WithMark, marked-outer}
-use Rattle.frontier.specs.Visit.{wantedWriter, wantedEarlier, latestWith, wantedWith}
+use Rattle.laws.specs.Walked.{awaited}
+use Rattle.laws.specs.Frontier.{raised, wanted}
+use Rattle.laws.proofs.Operations.{isRead-op, isJoin-none, isAcquire-none}
+use Rattle.laws.proofs.Awaited.{awaited-none, awaited-below}
+use Rattle.laws.proofs.Marks.{WithMark, marked-uncounted, marked-outer}
+use Rattle.frontier.specs.Visit.{wantedEarlier, latestWith, wantedWith}
 
 -- ---- by what the event is
 
@@ -26,73 +24,59 @@ abbrev pub Leaves : Trace → ℕ → List ℕ → List ℕ → List ℕ → Lis
 Leaves σ f want latest want′ latest′ =
     (want′ ≡ wantedWith σ want latest f) × (latest′ ≡ latestWith σ latest f)
 
-module _ (σ : Trace) (f : ℕ) where
-  -- A read is no acquire,
-  read-alone : isRead σ f ≡ true → isAcquire σ f ≡ false
-  read-alone r =
-      let none : at σ f .op ≡ 0 = eqb-true (at σ f .op) 0 (sym (isRead-op σ f refl) ∙ r) in
-      isAcquire-none σ f refl (omega arith)
+module _ (σ : Trace) (f : ℕ) (want latest : List ℕ) where
+  -- An outer acquire is noted, and the match of the earlier one is wanted.
+  pub acquire-leaves : isAcquire σ f ≡ true → {want′ latest′ : List ℕ}
+      → (want′ ≡ wantedEarlier σ want (getD latest (object σ f) 0) f)
+      × (latest′ ≡ raised latest (object σ f) f)
+      → Leaves σ f want latest want′ latest′
+  unfolding wantedWith latestWith
+  acquire-leaves a q = rw a q
 
-  -- and an acquire no read.
-  pub acquire-alone : isAcquire σ f ≡ true → isRead σ f ≡ false
-  acquire-alone a = decided (isRead σ f) (λ r. absurd (true≢false (sym a ∙ read-alone r))) (λ n. n)
-
-  module _ (want latest : List ℕ) where
-    -- A read wants its writer.
-    pub read-leaves : isRead σ f ≡ true → {want′ : List ℕ} → want′ ≡ wantedWriter σ want f
-        → Leaves σ f want latest want′ latest
-    unfolding wantedWith latestWith
-    read-leaves r w = rw (r, read-alone r) (w, refl)
-
-    -- An outer acquire is noted, and the match of the earlier one is wanted.
-    pub acquire-leaves : isAcquire σ f ≡ true → {want′ latest′ : List ℕ}
-        → (want′ ≡ wantedEarlier σ want (getD latest (object σ f) 0) f)
-        × (latest′ ≡ raised latest (object σ f) f)
-        → Leaves σ f want latest want′ latest′
-    unfolding wantedWith latestWith
-    acquire-leaves a q = rw (acquire-alone a, a) q
-
-    -- Another event changes nothing.
-    pub other-leaves : isRead σ f ≡ false → isAcquire σ f ≡ false → Leaves σ f want latest want latest
-    unfolding wantedWith latestWith
-    other-leaves r a = rw (r, a) (refl, refl)
+  -- Another event wants what it awaits.
+  pub other-leaves : isAcquire σ f ≡ false → {want′ : List ℕ} → want′ ≡ wanted σ want (awaited σ f)
+      → Leaves σ f want latest want′ latest
+  unfolding wantedWith latestWith
+  other-leaves n q = rw n (q, refl)
 
 -- ---- by the operation and the mark
 
 module _ {σ : Trace} {f op m : ℕ} (k : WithMark σ f op m) (want latest : List ℕ) where
-  -- A read by its operation wants its writer.
-  pub read-visited : op ≡ 0 → {want′ : List ℕ} → want′ ≡ wantedWriter σ want f
+  -- What is no acquire by its operation wants what it awaits.
+  pub other-visited : op ≢ 2 → {w : ℕ} → w ≡ awaited σ f → {want′ : List ℕ} → want′ ≡ wanted σ want w
       → Leaves σ f want latest want′ latest
-  read-visited a w = read-leaves σ f want latest (isRead-op σ f (k .op-is) ∙ eq-eqb op 0 a) w
+  other-visited d q r =
+      other-leaves σ f want latest (isAcquire-none σ f (k .op-is) d) (rw (← q) r)
 
-  -- An outer acquire by its operation and mark is noted, and the match of the earlier one is wanted.
+  -- An acquire by its operation that is none by its mark awaits nothing.
+  pub uncounted-visited : op ≡ 2 → m ≡ f → Leaves σ f want latest want latest
+  uncounted-visited a q =
+      let read = isRead-op σ f (k .op-is) ∙ ne-eqb op 0 (omega arith) in
+      let join = isJoin-none σ f (k .op-is) (omega arith) in
+      other-leaves σ f want latest (marked-uncounted k a q) (rw (awaited-none σ f read join))
+
+  -- An outer acquire by both is noted, and the match of the earlier one is wanted.
   pub acquire-visited : op ≡ 2 → m ≢ f → {want′ latest′ : List ℕ}
       → (want′ ≡ wantedEarlier σ want (getD latest (object σ f) 0) f)
       × (latest′ ≡ raised latest (object σ f) f)
       → Leaves σ f want latest want′ latest′
   acquire-visited a d q = acquire-leaves σ f want latest (marked-outer k a d) q
 
-  -- What is no read by its operation, and no outer acquire, changes nothing.
-  pub other-visited : op ≢ 0 → isAcquire σ f ≡ false → Leaves σ f want latest want latest
-  other-visited d n = other-leaves σ f want latest (isRead-op σ f (k .op-is) ∙ ne-eqb op 0 d) n
+-- ---- an event of whatever task
 
--- ---- the writer of a read
+module _ (σ : Trace) (want : List ℕ) {x : ℕ} where
+  -- 0 is not wanted,
+  pub wanted-none : x ≡ 0 → wanted σ want x ≡ want
+  wanted-none q = rw (eq-eqb x 0 q)
 
-module _ (σ : Trace) (want : List ℕ) (f : ℕ) {w : ℕ} (q : w ≡ writer σ f) where
-  -- Without a writer nothing more is wanted.
-  pub wantedWriter-none : w ≡ 0 → wantedWriter σ want f ≡ want
-  unfolding wantedWriter
-  wantedWriter-none n = rw (← q, n)
+  -- and another event of its task.
+  pub wanted-some : x ≢ 0 → wanted σ want x ≡ raised want (task σ x) x
+  wanted-some d = rw (ne-eqb x 0 d)
 
-  -- The writer is wanted of its task.
-  pub wantedWriter-some : w ≢ 0 → wantedWriter σ want f ≡ raised want (task σ w) w
-  unfolding wantedWriter
-  wantedWriter-some d = rw (← q, ne-eqb w 0 d)
-
--- A writer is an earlier event.
-pub writer-in : (b : List ℕ) (f : ℕ) → (1 ≤ f) × (2 * f ≤ length b) → (w : ℕ) → w ≡ writer (decodeAll b) f
-    → 2 * w ≤ length b
-writer-in b f inside w q = omega (arith, writer-below (decodeAll b) f, inside)
+-- What an event awaits is an earlier one.
+pub awaited-in : (b : List ℕ) (f : ℕ) → (1 ≤ f) × (2 * f ≤ length b) → (w : ℕ)
+    → w ≡ awaited (decodeAll b) f → 2 * w ≤ length b
+awaited-in b f inside w q = omega (arith, awaited-below (decodeAll b) f, inside)
 
 -- ---- the earlier one of two acquires
 

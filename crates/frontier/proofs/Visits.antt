@@ -8,26 +8,28 @@ use native.Mathlib.Omega.{arith}
 use lib.Dec.{T}
 use lib.ListN.{length, getD, set}
 use borrow.Author.Tests.{lt-ltb, le-ltb}
-use Rattle.model.specs.Trace.{Trace, tasks, locks, at, task, object, isRead, isAcquire}
-use Rattle.model.specs.Relations.{predecessor, writer, matching}
-use Rattle.model.specs.Closed.{Again}
-use Rattle.laws.specs.Frontier.{Frontier, Behind, Visited, Advancing, Entails, raised}
+use Rattle.model.specs.Trace.{Trace, tasks, locks, task, object, isAcquire}
+use Rattle.model.specs.Relations.{predecessor, matching}
+use Rattle.model.specs.Closed.{Direct, Again}
+use Rattle.laws.specs.Walked.{previous, awaited}
+use Rattle.laws.specs.Frontier.{Frontier, Behind, Visited, Advancing, Entails, raised, wanted}
 use Rattle.laws.proofs.Tests.{or-l, decided, equal?, at-most?}
 use Rattle.laws.proofs.Trace.{sameObject-iff}
-use Rattle.laws.proofs.Relations.{writer-below, writer-none, matching-below}
+use Rattle.laws.proofs.Relations.{matching-below}
+use Rattle.laws.proofs.Awaited.{awaited-acquire, awaited-direct, awaited-below}
 use Rattle.laws.proofs.Marks.{marked-acquire}
 use Rattle.laws.proofs.Frontier.{raised-grows, raised-reaches, raised-frontier}
-use Rattle.laws.proofs.WellFormed.{WellFormed, lock-lt, matching-between, matching-task}
-use Rattle.laws.proofs.Advancing.{visit-other, visit-earlier, visit-later}
-use Rattle.laws.proofs.Reached.{writer-entailed, match-entailed}
+use Rattle.laws.proofs.WellFormed.{WellFormed, acquire-lt, matching-between, matching-task}
+use Rattle.laws.proofs.Advancing.{needed, visit-other, visit-earlier, visit-later}
+use Rattle.laws.proofs.Reached.{match-entailed}
+use Rattle.laws.proofs.Wanted.{wanted-frontier, wanted-grows, wanted-reaches, wanted-behind}
 use Rattle.frontier.specs.Visit.{wantedEarlier, latestWith, wantedWith}
-use Rattle.frontier.proofs.Leaves.{Leaves, acquire-alone, read-leaves, acquire-leaves, other-leaves}
-use Rattle.frontier.proofs.Leaves.{wantedWriter-none, wantedWriter-some, wantedEarlier-none}
+use Rattle.frontier.proofs.Leaves.{Leaves, acquire-leaves, other-leaves, wantedEarlier-none}
 use Rattle.frontier.proofs.Leaves.{wantedEarlier-some}
 
 -- What is known after a visit of event f.
 pub record Visiting (σ : Trace) (front want want′ latest′ : List ℕ) (t old f : ℕ) : Type 0 where
-  pub going : Advancing σ front want′ latest′ t old (predecessor σ f)
+  pub going : Advancing σ front want′ latest′ t old (previous σ f)
   pub entailed : (given : List ℕ) → Entails σ given want → Entails σ given want′
   pub grows : (u : ℕ) → getD want u 0 ≤ getD want′ u 0
 
@@ -39,7 +41,9 @@ record Grown (σ : Trace) (want want′ : List ℕ) : Type 0 where
 
 module _ (σ : Trace) (ok : WellFormed σ) (front want latest : List ℕ) (t old f : ℕ)
     (z : Advancing σ front want latest t old f) (is-task : task σ f ≡ t) (at-f : Behind σ front f)
-    (left : old < f) where
+    (left : old < f)
+    (begun : previous σ f ≡ 0 → predecessor σ f ≢ 0
+    → predecessor σ f ≤ getD want (task σ (predecessor σ f)) 0) where
   -- The latest acquire of the lock of f that was visited.
   abbrev top : ℕ
   top = getD latest (object σ f) 0
@@ -69,19 +73,17 @@ module _ (σ : Trace) (ok : WellFormed σ) (front want latest : List ℕ) (t old
       grows = raised-grows want u e room;
     }
 
-  -- The writer of f.
-  module _ (d : writer σ f ≢ 0) where
-    writer-in : writer σ f ≤ length σ
-    writer-in = omega (arith, writer-below σ f, at-f .event)
+  -- What f awaits.
+  awaited-in : awaited σ f ≤ length σ
+  awaited-in = omega (arith, awaited-below σ f, at-f .event)
 
-    writer-small : task σ (writer σ f) < tasks
-    writer-small = ok .task-lt (writer σ f) (omega arith) writer-in
-
-    writer-more : Grown σ want (raised want (task σ (writer σ f)) (writer σ f))
-    writer-more =
-        more (task σ (writer σ f)) (writer σ f) writer-small writer-in refl
-        (λ given e. writer-entailed σ ok front want latest t old f z given e at-f d (task σ (writer σ f))
-        (room (task σ (writer σ f)) (writer σ f) writer-small))
+  awaited-more : Grown σ want (wanted σ want (awaited σ f))
+  awaited-more = record {
+    frontier = wanted-frontier σ ok want (z .want-ok) (awaited σ f) awaited-in;
+    entailed = wanted-behind σ ok front want latest t old f z f at-f (awaited σ f) awaited-in
+        (λ d v c h. c .direct f (awaited σ f) h (awaited-direct σ f) d);
+    grows = wanted-grows σ ok want (z .want-ok) (awaited σ f) awaited-in;
+  }
 
   -- The match of the earlier of two acquires.
   module _ (a b : ℕ) (again : Again σ a b) (at-a : Behind σ front a) where
@@ -101,19 +103,34 @@ module _ (σ : Trace) (ok : WellFormed σ) (front want latest : List ℕ) (t old
   -- ---- the visit
 
   visit : (want′ latest′ : List ℕ) → Grown σ want want′
-      → Advancing σ front want′ latest′ t old (predecessor σ f) → Visit want′ latest′
+      → Advancing σ front want′ latest′ t old (previous σ f) → Visit want′ latest′
   visit want′ latest′ g going = record { going = going; entailed = g .entailed; grows = g .grows }
 
-  -- What is no acquire wants its writer.
-  other : isAcquire σ f ≡ false → (want′ : List ℕ) → Grown σ want want′
-      → (writer σ f ≢ 0 → writer σ f ≤ getD want′ (task σ (writer σ f)) 0) → Visit want′ latest
-  other n want′ g wanted =
-      visit want′ latest g
-      (visit-other σ ok front want latest t old f z is-task at-f left want′ (g .frontier) (g .grows) wanted n)
+  -- All that the event needs by itself is wanted where what it awaits is.
+  needs : (want′ : List ℕ) → Grown σ want want′
+      → (awaited σ f ≢ 0 → awaited σ f ≤ getD want′ (task σ (awaited σ f)) 0)
+      → (x : ℕ) → Direct σ f x → x ≢ 0 → x ≤ getD want′ (task σ x) 0
+  needs want′ g awaits =
+      needed σ ok front want latest t old f z is-task at-f left want′
+      (ok .task-lt f (at-f .event .0) (at-f .event .1)) (g .grows) awaits
+      (λ n d. omega (arith, begun n d, g .grows (task σ (predecessor σ f))))
 
-  module _ (acquire : T (isAcquire σ f)) (unread : writer σ f ≡ 0) where
+  -- What is no acquire wants what it awaits.
+  other : isAcquire σ f ≡ false → Visit (wanted σ want (awaited σ f)) latest
+  other n =
+      visit _ latest awaited-more
+      (visit-other σ ok front want latest t old f z is-task at-f left _ (awaited-more .frontier)
+      (awaited-more .grows)
+      (needs _ awaited-more (wanted-reaches σ ok want (z .want-ok) (awaited σ f) awaited-in)) n)
+
+  module _ (acquire : T (isAcquire σ f)) where
     lock : object σ f < locks
-    lock = lock-lt σ ok f (at-f .event .0) (at-f .event .1) (or-l (isAcquire σ f) _ acquire)
+    lock = acquire-lt σ ok f acquire
+
+    -- It awaits nothing.
+    alone : (want′ : List ℕ) → Grown σ want want′ → (x : ℕ) → Direct σ f x → x ≢ 0
+        → x ≤ getD want′ (task σ x) 0
+    alone want′ g = needs want′ g (λ d. absurd (d (awaited-acquire σ f acquire)))
 
     -- An acquire later than the latest one wants the match of that one.
     noted : top < f → (want′ : List ℕ) → Grown σ want want′
@@ -121,7 +138,7 @@ module _ (σ : Trace) (ok : WellFormed σ) (front want latest : List ℕ) (t old
     noted b want′ g wanted =
         visit want′ (set latest (object σ f) f) g
         (visit-later σ ok front want latest t old f z is-task at-f left want′ (g .frontier) (g .grows)
-        unread acquire lock b wanted)
+        (alone want′ g) acquire lock b wanted)
 
     module _ (some : top ≢ 0) where
       at-top : Visited σ front t old f top × T (isAcquire σ top) × (object σ top ≡ object σ f)
@@ -145,8 +162,8 @@ module _ (σ : Trace) (ok : WellFormed σ) (front want latest : List ℕ) (t old
       earlier b =
           let g = match-more f top again at-f (at-top .0 .behind) in
           visit _ latest g
-          (visit-earlier σ ok front want latest t old f z is-task at-f left _ (g .frontier) (g .grows) unread
-          below (match-wanted f top again at-f))
+          (visit-earlier σ ok front want latest t old f z is-task at-f left _ (g .frontier) (g .grows)
+          (alone _ g) below (match-wanted f top again at-f))
         where
           apart : f ≢ top
           apart r = omega (arith, rw (← r) at (at-top .0) .passed is-task (omega arith))
@@ -164,26 +181,12 @@ module _ (σ : Trace) (ok : WellFormed σ) (front want latest : List ℕ) (t old
 
   -- A visit of event f brings the frontier on.
   pub visiting : Visiting σ front want (wantedWith σ want latest f) (latestWith σ latest f) t old f
-  visiting = decided (isAcquire σ f) acquired (λ n. decided (isRead σ f) (read n) (neither n))
+  visiting = decided (isAcquire σ f) acquired
+      (λ n. leaves _ latest (other-leaves σ f want latest n refl) (other n))
     where
       leaves : (want′ latest′ : List ℕ) → Leaves σ f want latest want′ latest′ → Visit want′ latest′
           → Visit (wantedWith σ want latest f) (latestWith σ latest f)
       leaves want′ latest′ q v = rw (q .0, q .1) at v
-
-      neither : isAcquire σ f ≡ false → isRead σ f ≡ false
-          → Visit (wantedWith σ want latest f) (latestWith σ latest f)
-      neither n d =
-          leaves want latest (other-leaves σ f want latest d n)
-          (other n want same (λ w. absurd (w (writer-none σ f d))))
-
-      read : isAcquire σ f ≡ false → isRead σ f ≡ true
-          → Visit (wantedWith σ want latest f) (latestWith σ latest f)
-      read n a =
-          leaves _ latest (read-leaves σ f want latest a refl)
-          (⊎-elim (λ w. rw (wantedWriter-none σ want f refl w) (other n want same (λ d. absurd (d w))))
-          (λ d. rw (wantedWriter-some σ want f refl d) (other n _ (writer-more d)
-          (λ _. reaches (task σ (writer σ f)) (writer σ f) (writer-small d))))
-          (equal? (writer σ f) 0))
 
       acquired : isAcquire σ f ≡ true → Visit (wantedWith σ want latest f) (latestWith σ latest f)
       acquired a =
@@ -192,14 +195,11 @@ module _ (σ : Trace) (ok : WellFormed σ) (front want latest : List ℕ) (t old
           acquire : T (isAcquire σ f)
           acquire = rw a tt
 
-          unread : writer σ f ≡ 0
-          unread = writer-none σ f (acquire-alone σ f a)
-
           first : top ≡ 0 → Visit (wantedEarlier σ want top f) (raised latest (object σ f) f)
           first n =
               let b : top < f = omega (arith, at-f .event) in
               rw (wantedEarlier-none σ want top f n, lt-ltb top f b)
-              (noted acquire unread b want same (λ d. absurd (d n)))
+              (noted acquire b want same (λ d. absurd (d n)))
 
           second : top ≢ 0 → Visit (wantedEarlier σ want top f) (raised latest (object σ f) f)
           second x =
@@ -207,9 +207,9 @@ module _ (σ : Trace) (ok : WellFormed σ) (front want latest : List ℕ) (t old
               (λ (b : f ≤ top).
               let q : f ≡ min top f = omega arith in
               let is-match = marked-acquire σ f acquire in
-              rw (wantedEarlier-some σ want top f x q, le-ltb top f b, is-match) (earlier acquire unread x b))
+              rw (wantedEarlier-some σ want top f x q, le-ltb top f b, is-match) (earlier acquire x b))
               (λ (b : top < f).
               let q : top ≡ min top f = omega arith in
-              let is-match = marked-acquire σ top (at-top acquire unread x .1) in
-              rw (wantedEarlier-some σ want top f x q, lt-ltb top f b, is-match) (later acquire unread x b))
+              let is-match = marked-acquire σ top (at-top acquire x .1) in
+              rw (wantedEarlier-some σ want top f x q, lt-ltb top f b, is-match) (later acquire x b))
               (at-most? f top)

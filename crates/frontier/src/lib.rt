@@ -1,18 +1,20 @@
 // The sync-preserving closure of an event set. A set that has the predecessors of its events is kept as its
 // frontier, the latest event that it has of each task; an event is visited once, when the frontier passes it.
-ghost use Prim.Native.Nat.{ℕ, _*_, _<_, _≤_, min};
+ghost use Prim.Native.Nat.{ℕ, suc, _*_, _<_, _≤_, min};
 ghost use mathlib.Core.Path.{_≡_};
+ghost use mathlib.Core.Bool.{cond};
 ghost use lib.ListN.{length, getD};
-ghost use lib.Dec.{leb};
+ghost use lib.Dec.{eqb, leb};
 ghost use Rattle.model.specs.Trace.{tasks, locks, task, object};
-ghost use Rattle.model.specs.Relations.{predecessor, writer};
+ghost use Rattle.model.specs.Relations.{predecessor};
 ghost use Rattle.laws.specs.EventKinds.{marked};
 ghost use Rattle.model.specs.Recording.{decodeAll};
 ghost use Rattle.model.specs.Calls.Check.{checkEvents};
-ghost use Rattle.laws.specs.Sizes.{recordsLength};
-ghost use Rattle.laws.specs.Frontier.{Settled, raised, Advanced, Turned};
+ghost use Rattle.laws.specs.Sizes.{recordsLength, orderLength};
+ghost use Rattle.laws.specs.Walked.{startIn, Starts};
+ghost use Rattle.laws.specs.Frontier.{Settled, raised, wanted, Advanced, Turned};
 ghost use Rattle.frontier.specs.Visit.{Reading, Needed, latestWith, wantedWith};
-ghost use Rattle.frontier.specs.Visit.{wantedWriter, wantedEarlier};
+ghost use Rattle.frontier.specs.Visit.{wantedEarlier};
 
 // Raises entry i of a table of events, one for each task or each lock, to event e, where e is later.
 fn raise(events: &mut [u16], i: usize, e: u16)
@@ -45,18 +47,15 @@ fn want_match(records: &[u8], matches: &[u16], want: &mut [u16], e: u16)
     raise(want, recording::task(records, at) as usize, matches[at]);
 }
 
-// Visits read f: wants its writer, where it has one.
-fn visit_read(records: &[u8], writers: &[u16], want: &mut [u16], f: u16)
-    requires { ⌜ (1 ≤ f) × (2 * f ≤ length (now records)) × (f < length (now writers))
-        × (getD (now writers) f 0 ≡ writer (decodeAll (now records)) f) × (length (now want) ≡ tasks) ⌝ }
-    ensures { λ r. ⌜ now (want .exit)
-        ≡ wantedWriter (decodeAll (now (records .entry))) (now (want .entry)) f ⌝ }
+// Wants event x of whatever task, unless it is 0.
+fn want_event(records: &[u8], want: &mut [u16], x: u16)
+    requires { ⌜ (2 * x ≤ length (now records)) × (length (now want) ≡ tasks) ⌝ }
+    ensures { λ r. ⌜ now (want .exit) ≡ wanted (decodeAll (now (records .entry))) (now (want .entry)) x ⌝ }
 {
-    let w = writers[f as usize];
-    if w == 0 {
+    if x == 0 {
         return;
     }
-    raise(want, recording::task(records, w as usize) as usize, w);
+    raise(want, recording::task(records, x as usize) as usize, x);
 }
 
 // Visits the outer acquire f: notes it where it is later than the latest one of its lock that was visited
@@ -81,7 +80,7 @@ fn visit_acquire(records: &[u8], matches: &[u16], want: &mut [u16], latest: &mut
     want_match(records, matches, want, earlier(top, f));
 }
 
-// Visits event f by its operation, as a read or as an outer acquire. A write, a release or an inner acquire,
+// Visits event f, which wants what it awaits, or is visited as an outer acquire. A start or an inner acquire,
 // which is marked by its own number, changes nothing.
 fn visit(
     records: &[u8],
@@ -99,12 +98,8 @@ fn visit(
     ensures latest { λ r. ⌜ now (latest .exit)
         ≡ latestWith (decodeAll (now (records .entry))) (now (latest .entry)) f ⌝ }
 {
-    let op = recording::operation(records, f as usize);
-    if op == 0 {
-        visit_read(records, writers, want, f);
-        return;
-    }
-    if op != 2 {
+    if recording::operation(records, f as usize) != 2 {
+        want_event(records, want, writers[f as usize]);
         return;
     }
     if matches[f as usize] == f {
@@ -113,7 +108,25 @@ fn visit(
     visit_acquire(records, matches, want, latest, f);
 }
 
-// A turn of task t: the frontier moves to its wanted event, and each event that it passes is visited.
+// Where the walk of task t ends, whose frontier was at event `old`: there, or for a task without events in the
+// set at its start, which is then wanted.
+fn begin(records: &[u8], predecessors: &[u16], want: &mut [u16], t: usize, old: u16) -> u16
+    requires { ⌜ (t < tasks) × (length (now predecessors) ≡ orderLength) × (length (now want) ≡ tasks)
+        × Starts (decodeAll (now records)) (suc (length (decodeAll (now records)))) (now predecessors) ⌝ }
+    ensures { λ r. ⌜ (r ≡ cond (eqb old 0) (startIn (decodeAll (now (records .entry))) t) old)
+        × (now (want .exit) ≡ cond (eqb old 0) (wanted (decodeAll (now (records .entry))) (now (want .entry))
+        (startIn (decodeAll (now (records .entry))) t)) (now (want .entry))) ⌝ }
+{
+    if old != 0 {
+        return old;
+    }
+    let start = predecessors[4096 + t];
+    want_event(records, want, start);
+    start
+}
+
+// A turn of task t: the frontier moves to its wanted event, and each event of the task that it passes is
+// visited.
 fn turn(
     records: &[u8],
     predecessors: &[u16],
@@ -133,8 +146,9 @@ fn turn(
 {
     let old = front[t];
     let mut f = want[t];
+    let end = begin(records, predecessors, want, t, old);
     front[t] = f;
-    while old < f {
+    while end < f {
         visit(records, writers, matches, want, latest, f);
         f = predecessors[f as usize];
     }
@@ -193,11 +207,11 @@ pub fn extend(
         × Settled (decodeAll (now records)) (now front) (now front) (now latest)
         × (now want ≡ now front) × (1 ≤ e) × (2 * e ≤ length (now records)) ⌝ }
     ensures { λ r. ⌜ Advanced (decodeAll (now (records .entry)))
-        (raised (now (front .entry)) (task (decodeAll (now (records .entry))) e)
+        (wanted (decodeAll (now (records .entry))) (now (front .entry))
         (predecessor (decodeAll (now (records .entry))) e))
         (now (front .exit)) (now (latest .exit)) × (now (want .exit) ≡ now (front .exit)) ⌝ }
 {
-    raise(want, recording::task(records, e) as usize, predecessors[e]);
+    want_event(records, want, predecessors[e]);
     advance(records, predecessors, writers, matches, front, want, latest);
 }
 

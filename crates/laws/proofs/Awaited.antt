@@ -2,19 +2,19 @@
 -- Assumes nothing.
 use Prim.Native.Nat.{ℕ, _-_, _≤_}
 use mathlib.Core.Path.{_≡_, refl, sym, _∙_}
-use mathlib.Core.Logic.{_≢_}
+use mathlib.Core.Logic.{⊎-elim, _≢_}
 use mathlib.Core.Bool.{true, false, cond}
 use native.Mathlib.Omega.{arith}
 use lib.Dec.{T, eqb}
-use borrow.Author.Tests.{eqb-true}
+use borrow.Author.Tests.{ne-eqb, eqb-true}
 use Rattle.model.specs.Trace.{Trace, at, isRead, isAcquire}
 use Rattle.model.specs.Tasks.{isJoin}
 use Rattle.model.specs.Relations.{writer, joined}
 use Rattle.model.specs.Closed.{Direct, writer-is, joined-is}
 use Rattle.laws.specs.Walked.{awaited}
-use Rattle.laws.proofs.Tests.{decided, is-true}
+use Rattle.laws.proofs.Tests.{decided, is-true, equal?}
 use Rattle.laws.proofs.Relations.{writer-read, writer-none, joined-none}
-use Rattle.laws.proofs.Operations.{isRead-op, isJoin-none}
+use Rattle.laws.proofs.Operations.{isRead-op, isJoin-none, isAcquire-none}
 use Rattle.laws.proofs.Closed.{direct-below}
 
 module _ (σ : Trace) (e : ℕ) where
@@ -33,7 +33,15 @@ module _ (σ : Trace) (e : ℕ) where
   unfolding awaited
   awaited-none n m = rw n (joined-none σ e m)
 
-  -- So its operation tells the writer off it.
+  -- So does an acquire.
+  pub awaited-acquire : T (isAcquire σ e) → awaited σ e ≡ 0
+  awaited-acquire a =
+      ⊎-elim
+      (λ (q : at σ e .op ≡ 2). awaited-none (isRead-op σ e refl ∙ ne-eqb (at σ e .op) 0 (omega arith))
+      (isJoin-none σ e refl (omega arith)))
+      (λ (d : at σ e .op ≢ 2). absurd (rw (isAcquire-none σ e refl d) at a)) (equal? (at σ e .op) 2)
+
+  -- The operation tells the writer off it.
   pub writer-off : cond (eqb (at σ e .op) 0) (awaited σ e) 0 ≡ writer σ e
   writer-off =
       decided (isRead σ e)

@@ -9,7 +9,7 @@ use mathlib.Core.List.{List·Memᴰ·append-cases, Memᴰ·append-right, List·M
 use native.Mathlib.Omega.{arith}
 use lib.Dec.{T, leb, leb→le, le→leb, not-T}
 use lib.ListN.{length, getD, replicate}
-use borrow.Author.Tests.{lt-leb, le-ltb}
+use borrow.Author.Tests.{lt-leb}
 use Rattle.model.specs.Lists.{all}
 use Rattle.model.specs.Trace.{Trace, tasks, locks, task, isEvent}
 use Rattle.model.specs.Relations.{predecessor}
@@ -17,46 +17,20 @@ use Rattle.model.specs.EventSet.{has}
 use Rattle.model.specs.Closed.{Closed}
 use Rattle.model.specs.Closure.{closure}
 use Rattle.model.specs.Pattern.{predecessors, closureBefore, isDeadlock}
-use Rattle.laws.specs.Frontier.{Frontier, Settled, raised, Advanced, Before}
-use Rattle.laws.proofs.Tests.{is-false, equal?}
+use Rattle.laws.specs.Frontier.{Frontier, wanted, Advanced, Before}
+use Rattle.laws.proofs.Tests.{is-false}
 use Rattle.laws.proofs.Lists.{all-ext, all-iff, zeros}
 use Rattle.laws.proofs.Trace.{isEvent-iff}
 use Rattle.laws.proofs.Relations.{predecessor-below}
-use Rattle.laws.proofs.Frontier.{raised-grows, raised-reaches, raised-cases, raised-frontier}
-use Rattle.laws.proofs.Frontier.{raised-zero}
 use Rattle.laws.proofs.WellFormed.{WellFormed}
 use Rattle.laws.proofs.Turns.{settled-start}
 use Rattle.laws.proofs.Reached.{closure-behind}
+use Rattle.laws.proofs.Wanted.{wanted-grows, wanted-reaches, wanted-cases}
 use Rattle.laws.proofs.Verdict.{predecessors-least, predecessors-sized, before-least, before-mono}
 use Rattle.laws.proofs.Verdict.{predecessors-has}
 use Rattle.laws.proofs.Closure.{closure-contains}
 
 module _ (σ : Trace) where
-  -- ---- one event more is wanted
-
-  -- A frontier at rest is at rest with more wanted.
-  pub settled-raised : (front want latest : List ℕ) (t e : ℕ) → Settled σ front want latest → t < tasks
-      → e ≤ length σ → (e ≢ 0 → task σ e ≡ t) → Settled σ front (raised want t e) latest
-  settled-raised front want latest t e z l k q = record {
-    front-ok = z .front-ok;
-    want-ok = more;
-    ahead = λ u h. omega (arith, z .ahead u h, grows u);
-    latest-long = z .latest-long;
-    direct-wanted = λ e x v r d. omega (arith, z .direct-wanted e x v r d, grows (task σ x));
-    latest-visited = z .latest-visited;
-    latest-most = z .latest-most;
-    match-wanted = λ x v a h. omega (arith, z .match-wanted x v a h, grows (task σ x));
-  }
-    where
-      grows : (u : ℕ) → getD want u 0 ≤ getD (raised want t e) u 0
-      grows = raised-grows want t e (omega (arith, z .want-ok .long))
-
-      more : Frontier σ (raised want t e)
-      more =
-          ⊎-elim
-          (λ (n : e ≡ 0). rw (n, le-ltb (getD want t 0) 0 (omega arith)) (z .want-ok))
-          (λ d. raised-frontier σ want t e (z .want-ok) l k (q d)) (equal? e 0)
-
   -- ---- the closure of no event's predecessors
 
   -- It has no event.
@@ -83,11 +57,10 @@ module _ (σ : Trace) where
 
   -- ---- one event more
 
-  -- The closure of one predecessor more is reached from the one before. The predecessor is of the event's
-  -- task, or its start, of another one.
+  -- The closure of one predecessor more is reached from the one before.
   pub before-extend : WellFormed σ → (p front latest : List ℕ) (e : ℕ) (front′ latest′ : List ℕ)
       → Before σ p front latest → 1 ≤ e → e ≤ length σ
-      → Advanced σ (raised front (task σ (predecessor σ e)) (predecessor σ e)) front′ latest′
+      → Advanced σ (wanted σ front (predecessor σ e)) front′ latest′
       → Before σ (p ++ e ∷ []) front′ latest′
   unfolding closureBefore
   before-extend ok p front latest e front′ latest′ z h k a = record {
@@ -97,25 +70,10 @@ module _ (σ : Trace) where
   }
     where
       given : List ℕ
-      given = raised front (task σ (predecessor σ e)) (predecessor σ e)
+      given = wanted σ front (predecessor σ e)
 
-      small : predecessor σ e ≢ 0 → task σ (predecessor σ e) < length front
-      small d =
-          let low = predecessor-below σ e in
-          omega (
-            arith,
-            ok .task-lt (predecessor σ e) (omega arith) (omega arith),
-            z .settled .front-ok .long,
-          )
-
-      none : predecessor σ e ≡ 0 → given ≡ front
-      none q = rw q (raised-zero front (task σ 0))
-
-      grows : (u : ℕ) → getD front u 0 ≤ getD given u 0
-      grows u =
-          ⊎-elim (λ (q : predecessor σ e ≡ 0). rw (none q) (omega arith))
-          (λ (d : predecessor σ e ≢ 0). raised-grows front (task σ (predecessor σ e)) (predecessor σ e)
-          (small d) u) (equal? (predecessor σ e) 0)
+      known : predecessor σ e ≤ length σ
+      known = omega (arith, predecessor-below σ e)
 
       reach : (x : ℕ) → T (has (predecessors σ (p ++ e ∷ [])) x) → x ≤ getD given (task σ x) 0
       reach = predecessors-least σ _ (p ++ e ∷ []) new
@@ -135,20 +93,18 @@ module _ (σ : Trace) where
                   let inside : T (has (closureBefore σ p) (predecessor σ f)) = start f n d l in
                   let low = leb→le (predecessor σ f) (getD front u 0)
                   (rw (z .members (predecessor σ f) (omega arith) l) at inside) in
-                  omega (arith, grows u)
+                  omega (arith, wanted-grows σ ok front (z .settled .front-ok) (predecessor σ e) known u)
 
               latest-one : f ≡ e → predecessor σ f ≤ getD given (task σ (predecessor σ f)) 0
               latest-one q =
                   let d′ : predecessor σ e ≢ 0 = rw q at d in
-                  rw q (raised-reaches front (task σ (predecessor σ e)) (predecessor σ e) (small d′))
+                  rw q (wanted-reaches σ ok front (z .settled .front-ok) (predecessor σ e) known d′)
 
       tops : (u : ℕ) → u < tasks → getD given u 0 ≢ 0
           → T (has (closure σ (predecessors σ (p ++ e ∷ []))) (getD given u 0))
       tops u l d =
-          ⊎-elim (λ (n : predecessor σ e ≡ 0). old (rw (none n) refl))
-          (λ n. ⊎-elim old (new n)
-          (raised-cases front (task σ (predecessor σ e)) (predecessor σ e) (small n) u))
-          (equal? (predecessor σ e) 0)
+          ⊎-elim old (λ (n, _, q). new n q)
+          (wanted-cases σ ok front (z .settled .front-ok) (predecessor σ e) known u)
         where
           old : getD given u 0 ≡ getD front u 0
               → T (has (closure σ (predecessors σ (p ++ e ∷ []))) (getD given u 0))
@@ -160,9 +116,9 @@ module _ (σ : Trace) where
               (le→leb (getD front u 0) (getD front u 0) (omega arith)) in
               rw q (before-mono σ p (e ∷ []) (getD front u 0) here)
 
-          new : predecessor σ e ≢ 0 → (u ≡ task σ (predecessor σ e)) × (getD given u 0 ≡ predecessor σ e)
+          new : predecessor σ e ≢ 0 → getD given u 0 ≡ predecessor σ e
               → T (has (closure σ (predecessors σ (p ++ e ∷ []))) (getD given u 0))
-          new n (s, q) =
+          new n q =
               rw q (closure-contains σ (predecessors σ (p ++ e ∷ [])) (predecessor σ e)
               (predecessors-has σ (p ++ e ∷ []) (Memᴰ·append-right p (List·Memᴰ·head refl)) n
               (omega (arith, predecessor-below σ e))))

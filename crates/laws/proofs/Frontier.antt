@@ -52,10 +52,6 @@ module _ (want : List ℕ) (t e : ℕ) (l : t < length want) where
   raised-length =
       decided (ltb (getD want t 0) e) (λ y. rw y (length-set want t e)) (λ n. rw n)
 
--- Event 0 raises nothing.
-pub raised-zero : (want : List ℕ) (t : ℕ) → raised want t 0 ≡ want
-raised-zero want t = rw (le-ltb (getD want t 0) 0 (omega arith))
-
 module _ (σ : Trace) where
   -- A frontier that is raised to an event of the task is one.
   pub raised-frontier : (want : List ℕ) (t e : ℕ) → Frontier σ want → t < tasks → e ≤ length σ → task σ e ≡ t

@@ -1,13 +1,16 @@
 -- The last event of a task before another event: what the searches for it, for its start and for its joins
 -- find. Assumes nothing.
-use Prim.Native.Nat.{ℕ, _-_, _≤_, _<_}
+use Prim.Native.Nat.{ℕ, suc, _-_, _≤_, _<_}
 use mathlib.Core.Path.{_≡_, sym}
 use mathlib.Core.Logic.{inl, inr, ⊎-elim, _≢_}
+use native.Mathlib.Omega.{arith}
 use lib.Dec.{T, eqb, eqb→eq}
+use lib.ListN.{length}
 use borrow.Author.Tests.{eq-eqb, ne-eqb}
 use Rattle.model.specs.Trace.{Trace, task}
 use Rattle.model.specs.Tasks.{starts, joins, belongs}
 use Rattle.model.specs.Relations.{latestOf, startOf, joinOf, lastOf}
+use Rattle.laws.specs.Walked.{startIn}
 use Rattle.laws.proofs.Tests.{equal?, eq→eqb}
 use Rattle.laws.proofs.Searches.{Latest, lastBefore-latest, latest-below}
 use Rattle.laws.proofs.Tasks.{belongs-iff}
@@ -30,6 +33,10 @@ module _ (σ : Trace) where
   pub startOf-latest : (e t : ℕ) → Latest e (starts σ t) (startOf σ e t)
   unfolding startOf
   startOf-latest e t = lastBefore-latest e (starts σ t)
+
+  -- The start of a task is an event, or 0.
+  pub startIn-le : (t : ℕ) → startIn σ t ≤ length σ
+  startIn-le t = omega (arith, latest-below (startOf-latest (suc (length σ)) t))
 
   -- The latest join of a task before e.
   pub joinOf-latest : (e t : ℕ) → Latest e (joins σ t) (joinOf σ e t)

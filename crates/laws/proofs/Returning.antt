@@ -31,7 +31,7 @@ use Rattle.laws.proofs.WellFormed.{WellFormed, lock-lt}
 use Rattle.laws.proofs.EventSet.{In, Within}
 use Rattle.laws.proofs.Frontier.{closed-earlier}
 use Rattle.laws.proofs.Verdict.{before-least, before-closed, before-contains, isDeadlock-iff}
-use Rattle.laws.specs.Frontier.{raised, Advanced, Before}
+use Rattle.laws.specs.Frontier.{wanted, Advanced, Before}
 use Rattle.laws.proofs.Before.{before-extend}
 use Rattle.laws.proofs.Pattern.{Inside}
 use Rattle.laws.proofs.Extensions.{extensions-zero, extensions-suc, branch-unfit, branch-nowhere}
@@ -174,7 +174,7 @@ module _ (σ : Trace) where
   -- So the frontier before an earlier event of the task may be extended to that before a later one.
   pub before-again : WellFormed σ → (p front latest : List ℕ) (d e : ℕ) (front′ latest′ : List ℕ)
       → Before σ (p ++ d ∷ []) front latest → 1 ≤ d → d < e → task σ d ≡ task σ e → Inside σ (p ++ e ∷ [])
-      → Advanced σ (raised front (task σ (predecessor σ e)) (predecessor σ e)) front′ latest′
+      → Advanced σ (wanted σ front (predecessor σ e)) front′ latest′
       → Before σ (p ++ e ∷ []) front′ latest′
   before-again ok p front latest d e front′ latest′ z h k q inside a =
       let high = inside e (Memᴰ·append-right p (List·Memᴰ·head refl)) in

@@ -1,74 +1,72 @@
 -- `frontier::extend` meets its contract: with the predecessor wanted, the frontier advances. Assumes nothing.
-use mathlib.Core.Path.{_≡_, ap}
+use Prim.Native.Nat.{ℕ, _≤_}
+use mathlib.Core.Path.{_≡_, ap, _∙_}
+use mathlib.Core.List.{List}
 use native.Mathlib.Omega.{arith}
 use borrow.Author.Needs.{needs}
-use lib.ListN.{length}
-use Rattle.model.specs.Trace.{task}
+use lib.ListN.{length, getD}
 use Rattle.model.specs.Relations.{predecessor}
 use Rattle.model.specs.Recording.{decodeAll}
-use Rattle.laws.specs.Frontier.{raised}
+use Rattle.laws.specs.Frontier.{wanted}
 use Rattle.laws.proofs.Trace.{decodeAll-length}
-use Rattle.laws.proofs.Relations.{predecessor-below, predecessor-own}
-use Rattle.laws.proofs.Before.{settled-raised}
+use Rattle.laws.proofs.Relations.{predecessor-below}
+use Rattle.laws.proofs.Wanted.{settled-wanted}
+use Rattle.laws.proofs.Questions.{events-sound}
 use Rattle.frontier.proofs.extend.Statement.{statement}
 use Rattle.frontier.proofs.extend.Tie as tie
+use Rattle.frontier.proofs.advance.Reads as advance-reads
+use Rattle.frontier.proofs.want_event.Reads as want-event-reads
 
--- The predecessor is wanted beside the frontier.
-wanted : (c : tie.After-raise)
-    → c .raise .last .0
-    ≡ raised (c .before .before .before .before .before .before .before .before .before .before .before
-    .args .front .now)
-    (task (decodeAll (c .before .before .before .before .before .before .before .before .before .before
-    .before .args .records .now)) (c .before .before .before .before .before .before .before .before
-    .before .before .before .args .e))
-    (predecessor (decodeAll (c .before .before .before .before .before .before .before .before .before
-    .before .before .args .records .now)) (c .before .before .before .before .before .before .before
-    .before .before .before .before .args .e))
-wanted c =
-    let s = c .before .before .before .before .before .before .before .before .before .before .before in
-    let size = decodeAll-length (s .args .records .now) in
-    rw (
-      ← (s .pre .4),
-      ← (c .before .before .task .ensures .1),
-      ← (s .pre .2 .predecessor-at (s .args .e) (s .pre .5) (omega (arith, s .pre .6))),
-    ) (c .raise .ensures)
+-- The predecessor is an event of the records, or 0.
+known : (s : tie.Start)
+    → predecessor (decodeAll (s .args .records .now)) (s .args .e) ≤ length (decodeAll (s .args .records .now))
+known s =
+    let b = s .args .records .now in
+    omega (arith, predecessor-below (decodeAll b) (s .args .e), s .pre .6, decodeAll-length b)
 
-task-requires : tie.Need-task-requires
-task-requires c κs = search needs
+-- The table has it.
+noted : (s : tie.Start)
+    → getD (s .args .predecessors .now) (s .args .e) 0
+    ≡ predecessor (decodeAll (s .args .records .now)) (s .args .e)
+noted s =
+    s .pre .2 .predecessor-at (s .args .e) (s .pre .5)
+    (omega (arith, s .pre .6, decodeAll-length (s .args .records .now)))
 
-cast-raise : tie.Need-cast-raise
-cast-raise c = search needs
+-- The entry, from where the predecessor is wanted beside the frontier.
+abbrev start : tie.After-want-event → tie.Start
+start c = c .before .before .before .before .before .before .before .before .before .before
 
-mul-raise : tie.Need-mul-raise
-mul-raise c = search needs
+more : (c : tie.After-want-event)
+    → c .want-event .last .1 .0
+    ≡ wanted (decodeAll (start c .args .records .now)) (start c .args .front .now)
+    (predecessor (decodeAll (start c .args .records .now)) (start c .args .e))
+more c =
+    let s = start c in
+    let σ = decodeAll (s .args .records .now) in
+    c .want-event .ensures ∙ ap (λ (w : List ℕ). wanted σ w (getD (s .args .predecessors .now) (s .args .e) 0)) (s .pre .4)
+    ∙ ap (λ (x : ℕ). wanted σ (s .args .front .now) x) (noted s)
 
-shared-slice-read-raise : tie.Need-shared-slice-read-raise
-shared-slice-read-raise c = search needs
+mul-want-event : tie.Need-mul-want-event
+mul-want-event c = search needs
 
-raise-requires : tie.Need-raise-requires
-raise-requires c κs =
-    let s = c .before .before .before .before .before .before .before .before .before .before in omega
-    (arith, c .before .task .ensures, s .pre .3 .want-ok .long, ap length (s .pre .4))
+shared-slice-read-want-event : tie.Need-shared-slice-read-want-event
+shared-slice-read-want-event c = search needs
+
+want-event-requires : tie.Need-want-event-requires
+want-event-requires c κs =
+    let s = c .before .before .before .before .before .before .before .before .before in (
+      omega (arith, noted s, known s, decodeAll-length (s .args .records .now)),
+      rw (s .pre .4) (s .pre .3 .want-ok .long),
+    )
 
 advance-requires : tie.Need-advance-requires
 advance-requires c κs =
-    let s = c .before .before .before .before .before .before .before .before .before .before .before
-    .before .before .before .before .before in
-    let σ = decodeAll (s .args .records .now) in
-    let e = s .args .e in
-    let size = decodeAll-length (s .args .records .now) in
-    let low = predecessor-below σ e in (
+    let k = c .before .before .before .before .before in
+    let s = start k in (
       s .pre .0,
       s .pre .1,
       s .pre .2,
-      rw (wanted (c .before .before .before .before .before))
-          (settled-raised σ (s .args .front .now) (s .args .front .now) (s .args .latest .now) (task σ e)
-          (predecessor σ e) (s .pre .3) (omega (
-            arith,
-            c .before .before .before .before .before .before
-                .before .task .ensures,
-          ))
-          (omega (arith, s .pre .6)) (predecessor-own σ e)),
+      rw (more k) (settled-wanted _ (events-sound (s .args .records .now) (s .pre .1)) _ _ _ (s .pre .3) _ (known s)),
     )
 
 same-length : tie.Need-same-length
@@ -82,21 +80,15 @@ same-length-3 c = search needs
 
 returns : tie.Need-returns
 returns c =
-    let a = c .before .before .before .before .before .before .advance .ensures in (
-      rw (wanted (c .before .before .before .before .before .before .before .before .before .before .before
-          .before)) at (a .0),
-      a .1,
-    )
+    let a = c .before .before .before .before .before .before .advance .ensures in (rw (more (c .before .before .before .before .before .before .before .before .before .before .before .before)) at (a .0), a .1)
 
 pub extend-spec : {M : Type 1} → statement M
 extend-spec =
     tie.close
     (tie.spec
-    task-requires
-    cast-raise
-    mul-raise
-    shared-slice-read-raise
-    raise-requires
+    mul-want-event
+    shared-slice-read-want-event
+    want-event-requires
     advance-requires
     same-length
     same-length-2

@@ -1,24 +1,25 @@
--- `frontier::turn` meets its contract: the frontier is on its way from the wanted event to the old one.
--- Assumes nothing.
+-- `frontier::turn` meets its contract: the frontier is on its way from the wanted event to the old one, or to
+-- the task's start. Assumes nothing.
 use Prim.Native.Nat.{_≤_, _<_}
 use mathlib.Core.Path.{_≡_, refl, sym, _∙_}
 use native.Mathlib.Omega.{arith}
-use lib.ListN.{length, getD, length-set}
+use lib.ListN.{length, getD, set, length-set}
 use Rattle.model.specs.Relations.{predecessor}
 use Rattle.model.specs.Recording.{decodeAll}
 use Rattle.laws.proofs.Trace.{decodeAll-length}
 use Rattle.laws.proofs.Relations.{predecessor-below}
 use Rattle.laws.proofs.Questions.{events-sound}
-use Rattle.frontier.proofs.Turning.{Turning, turning-begin, turning-step, turning-end}
+use Rattle.frontier.proofs.Turning.{Turning, turning-begin, turning-step, turning-again}
+use Rattle.frontier.proofs.Turning.{turning-end}
 use Rattle.frontier.proofs.turn.Statement.{statement}
 use Rattle.frontier.proofs.turn.Tie as tie
 
 abbrev Inv-loop : tie.InvT-loop
-Inv-loop records predecessors writers matches front want₀ latest₀ t old f₀ want latest f =
-    Turning (decodeAll records) front want₀ want latest t old f
+Inv-loop records predecessors writers matches front want₀ latest₀ t old f₀ end want latest f =
+    Turning (decodeAll records) front want₀ want latest t old end f
 
 abbrev μ-loop : tie.MeasureT-loop
-μ-loop records predecessors writers matches front want₀ latest₀ t old f₀ want latest f = f
+μ-loop records predecessors writers matches front want₀ latest₀ t old f₀ end want latest f = f
 
 -- Both tables have the task.
 inside : (c : tie.Start Inv-loop μ-loop)
@@ -27,12 +28,22 @@ inside c = omega (arith, c .pre .4, c .pre .3 .front-ok .long, c .pre .3 .want-o
 
 -- Where the turn began.
 abbrev start : tie.At-loop Inv-loop μ-loop → tie.Start Inv-loop μ-loop
-start c = c .before .before .before .before .before .before .before .before .before .before
+start c = c .before .before .before .before .before .before .before .before .before .before .before .before .before .before
+
+-- The turn at its beginning.
+begun : (c : tie.After-begin Inv-loop μ-loop) → let s = c .before .before .before .before .before .before .before .before .before .before .before in
+    Turning (decodeAll (s .args .records .now)) (set (s .args .front .now) (s .args .t) (getD (s .args .want .now) (s .args .t) 0))
+    (s .args .want .now) (c .begin .last .1 .1 .0) (s .args .latest .now) (s .args .t)
+    (getD (s .args .front .now) (s .args .t) 0) (c .begin .result) (getD (s .args .want .now) (s .args .t) 0)
+begun c =
+    let s = c .before .before .before .before .before .before .before .before .before .before .before in
+    turning-begin _ (events-sound (s .args .records .now) (s .pre .1)) _ _ _ _ (s .pre .3) (s .pre .4) (s .pre .5)
+    (c .begin .ensures .0) (c .begin .ensures .1)
 
 -- The event to be visited,
 event : (c : tie.In-loop Inv-loop μ-loop) → (1 ≤ c .before .loop .f)
     × (c .before .loop .f ≤ length (decodeAll (start (c .before) .args .records .now)))
-event c = c .before .loop .inv .next (c .loop-test .taken) .1 .event
+event c = c .before .loop .inv .more (c .loop-test .taken) .3 .event
 
 -- which the table has,
 tabled : (c : tie.In-loop Inv-loop μ-loop)
@@ -60,18 +71,22 @@ slice-read-f : tie.Need-slice-read-f Inv-loop μ-loop
 slice-read-f c =
     omega (arith, inside (c .before .before .before .before .before .before .before .before .before))
 
+begin-requires : tie.Need-begin-requires Inv-loop μ-loop
+begin-requires c κs =
+    let s = c .before .before .before .before .before .before .before .before .before .before in
+    (s .pre .4, s .pre .2 .predecessor-long, s .pre .3 .want-ok .long, s .pre .2 .start-at)
+
 mul-front : tie.Need-mul-front Inv-loop μ-loop
-mul-front c =
-    omega (arith, inside (c .before .before .before .before .before .before .before .before .before))
+mul-front c = omega (arith, inside (c .before .before .before .before .before .before .before .before .before .before .before .before .before))
 
 slice-write-front : tie.Need-slice-write-front Inv-loop μ-loop
-slice-write-front c =
-    omega (arith, inside (c .before .before .before .before .before .before .before .before .before))
+slice-write-front c = omega (arith, inside (c .before .before .before .before .before .before .before .before .before .before .before .before .before))
 
 loop-holds : tie.Need-loop-holds Inv-loop μ-loop
 loop-holds c =
-    let s = c .before .before .before .before .before .before .before .before .before in
-    turning-begin _ _ _ _ _ (s .pre .3) (s .pre .4) (s .pre .5)
+    let k = c .before .before in
+    let s = k .before .before .before .before .before .before .before .before .before .before .before in
+    turning-again _ (events-sound (s .args .records .now) (s .pre .1)) (begun k)
 
 visit-requires : tie.Need-visit-requires Inv-loop μ-loop
 visit-requires c κs =
@@ -109,7 +124,7 @@ loop-again c =
     let s = start (i .before) in
     let v = c .before .before .before .before .before .visit .ensures in
     rw (next i, v .0, v .1)
-    (turning-step _ (events-sound (s .args .records .now) (s .pre .1)) _ _ _ _ _ _ _
+    (turning-step _ (events-sound (s .args .records .now) (s .pre .1)) _ _ _ _ _ _ _ _
     (i .before .loop .inv) (i .loop-test .taken))
 
 same-length : tie.Need-same-length Inv-loop μ-loop
@@ -126,7 +141,10 @@ same-length-3 c =
     c .before .loop .inv .going .latest-long ∙ sym (s .pre .3 .latest-long)
 
 returns : tie.Need-returns Inv-loop μ-loop
-returns c = turning-end _ _ _ _ _ _ _ _ _ (c .before .loop .inv) (c .loop-test .left) refl
+returns c =
+    let s = start (c .before) in
+    turning-end _ (events-sound (s .args .records .now) (s .pre .1)) (s .args .front .now)
+    (begun (c .before .before .before .before)) (c .before .loop .inv) (c .loop-test .left) refl
 
 pub turn-spec : {M : Type 1} → statement M
 turn-spec =
@@ -138,6 +156,7 @@ turn-spec =
     slice-read-old
     mul-f
     slice-read-f
+    begin-requires
     mul-front
     slice-write-front
     loop-holds
