@@ -12,7 +12,7 @@ use Rattle.model.specs.Trace.{Trace, task, object, isEvent}
 use Rattle.model.specs.Relations.{predecessor, held}
 use Rattle.model.specs.Pattern.{isDeadlock}
 use Rattle.laws.specs.Chain.{Chain, signature, add}
-use Rattle.laws.specs.Frontier.{Settled, raised, Advanced, Before}
+use Rattle.laws.specs.Frontier.{Settled, wanted, Advanced, Before}
 use Rattle.laws.specs.Returning.{Returning}
 use Rattle.laws.proofs.Tests.{is-false, and-i, not-false, equal?}
 use Rattle.laws.proofs.Lists.{all-iff, all-append, all-fails}
@@ -115,7 +115,7 @@ module _ (σ : Trace) (of e : ℕ) (front latest grown newest base top : List �
 
   -- Extended by the predecessor of e, it is that of the predecessors of the events and e.
   pub grow-reaches : WellFormed σ → (front′ latest′ : List ℕ) → 1 ≤ e → e ≤ length σ
-      → Advanced σ (raised base (task σ e) (predecessor σ e)) front′ latest′ → (p : List ℕ)
+      → Advanced σ (wanted σ base (predecessor σ e)) front′ latest′ → (p : List ℕ)
       → T (all (isEvent σ) p) → Reusable σ p of e front latest grown newest
       → Before σ (p ++ e ∷ []) front′ latest′
   grow-reaches ok front′ latest′ h l a p t z = ⊎-elim again anew (equal? (task σ e) of)

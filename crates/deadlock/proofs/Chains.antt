@@ -14,7 +14,7 @@ use borrow.Author.Tests.{eq-eqb, ne-eqb, lt-ltb, le-ltb}
 use Rattle.model.specs.Lists.{hasBit}
 use Rattle.model.specs.Bytes.{numbers, isWhole}
 use Rattle.model.specs.Pattern.{isPattern}
-use Rattle.model.specs.Trace.{Trace, at, task, object, isEvent, isAcquire}
+use Rattle.model.specs.Trace.{Trace, locks, at, task, object, isEvent, isAcquire}
 use Rattle.model.specs.Recording.{decodeAll}
 use Rattle.model.specs.Relations.{held}
 use Rattle.laws.specs.Chain.{Chain, signature, start, add, fits, completing, chainOf}
@@ -22,22 +22,28 @@ use Rattle.laws.proofs.Tests.{parts, decided, is-true, is-false, tests}
 use Rattle.laws.proofs.Bytes.{numbers-length}
 use Rattle.laws.proofs.Pattern.{isPattern-iff}
 use Rattle.laws.proofs.Trace.{isEvent-iff, decodeAll-length}
-use Rattle.laws.proofs.Faults.{isAcquire-none}
+use Rattle.laws.proofs.Operations.{isAcquire-none, isAcquire-task}
 use Rattle.laws.proofs.WellFormed.{WellFormed, acquire-outer}
 use Rattle.laws.proofs.Search.{completing-cons, completing-end, pattern-completing}
 use Rattle.deadlock.specs.Judged.{joins}
 
 -- ---- one event
 
--- By its operation and its own lock an event is told to be an outer acquire.
+-- By its operation and its object an event is told to be an outer acquire.
 module _ (σ : Trace) (ok : WellFormed σ) (e : ℕ) {op : ℕ} (is-op : op ≡ at σ e .op) where
   -- Another operation is none,
   pub acquires-not : op ≢ 2 → false ≡ isAcquire σ e
   acquires-not d = sym (isAcquire-none σ e is-op d)
 
-  -- and an acquire is one where its lock is not held.
-  pub acquires-own : op ≡ 2 → {h o : ℕ} → h ≡ held σ e → o ≡ object σ e → not (hasBit h o) ≡ isAcquire σ e
-  acquires-own a p q = rw (p, q, acquire-outer σ ok e op is-op, a)
+  module _ {o : ℕ} (q : o ≡ object σ e) where
+    -- a start is none,
+    pub acquires-task : locks ≤ o → false ≡ isAcquire σ e
+    acquires-task l = sym (isAcquire-task σ e is-op (rw q at l))
+
+    -- and an acquire of a lock is one where that is not held.
+    pub acquires-own : op ≡ 2 → o < locks → {h : ℕ} → h ≡ held σ e → not (hasBit h o) ≡ isAcquire σ e
+    acquires-own a l p =
+        rw (p, q, acquire-outer σ ok e op is-op, a, lt-ltb (object σ e) locks (rw q at l))
 
 module _ (σ : Trace) (last tasks guards e : ℕ) {h : ℕ} (is-held : h ≡ held σ e) where
   -- The last event's lock must be held.

@@ -13,7 +13,7 @@ use Rattle.model.specs.Bytes.{numbers, isWhole}
 use Rattle.model.specs.Pattern.{isPattern}
 use Rattle.model.specs.Trace.{Trace, task}
 use Rattle.model.specs.Relations.{predecessor}
-use Rattle.laws.specs.Frontier.{raised, Advanced, Before}
+use Rattle.laws.specs.Frontier.{wanted, Advanced, Before}
 use Rattle.laws.proofs.WellFormed.{WellFormed}
 use Rattle.laws.proofs.Before.{before-extend, before-deadlock}
 use Rattle.laws.proofs.Pattern.{lent-events}
@@ -23,7 +23,7 @@ module _ (σ : Trace) (ns : List ℕ) (i : ℕ) (inside : i < length ns) where
   -- One event more of the frontier's list.
   pub before-next : WellFormed σ → (front latest front′ latest′ : List ℕ) (e : ℕ) → e ≡ getD ns i 0
       → Before σ (take i ns) front latest → 1 ≤ e → e ≤ length σ
-      → Advanced σ (raised front (task σ e) (predecessor σ e)) front′ latest′
+      → Advanced σ (wanted σ front (predecessor σ e)) front′ latest′
       → Before σ (take (i + 1) ns) front′ latest′
   before-next ok front latest front′ latest′ e q z h k a =
       rw (add-one i, take-suc ns i 0 inside, ← q) (before-extend σ ok (take i ns) front latest e front′

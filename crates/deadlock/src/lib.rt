@@ -42,8 +42,8 @@ pub fn with_task(records: &[u8], tasks: u64, e: usize) -> u64
     tasks | (1 << (recording::task(records, e) as u64))
 }
 
-// Event e, at which its task holds the locks of the mask, is an outer acquire: its own lock is not among
-// them.
+// Event e, at which its task holds the locks of the mask, is an outer acquire: it is one of a lock, which is
+// not among them.
 pub fn is_acquire(records: &[u8], mask: u64, e: usize) -> bool
     requires { ⌜ (1 ≤ e) × (2 * e ≤ length (now records))
         × (checkEvents (decodeAll (now records)) .refusal ≡ 0) × (mask ≡ held (decodeAll (now records)) e) ⌝ }
@@ -52,7 +52,11 @@ pub fn is_acquire(records: &[u8], mask: u64, e: usize) -> bool
     if recording::operation(records, e) != 2 {
         return false;
     }
-    !recording::in_mask(mask, recording::object(records, e) as u64)
+    let l = recording::object(records, e) as u64;
+    if 64 <= l {
+        return false;
+    }
+    !recording::in_mask(mask, l)
 }
 
 // The number e is that of an outer acquire, with which a pattern may begin.
@@ -281,7 +285,7 @@ fn judge(records: &[u8], pattern: &[u8], front: &mut [u16]) -> u64
     let mut tasks = [0u8; 4096];
     let mut objects = [0u16; 4096];
     let mut holding = [0u64; 4096];
-    let mut predecessors = [0u16; 4096];
+    let mut predecessors = [0u16; 4112];
     let mut writers = [0u16; 4096];
     let mut matches = [0u16; 4096];
     relations::fill_tables(
@@ -305,7 +309,7 @@ fn judge(records: &[u8], pattern: &[u8], front: &mut [u16]) -> u64
     )
 }
 
-// The verdict of a lent pattern: questions 1 to 7, question 10, then whether the closure of its predecessors
+// The verdict of a lent pattern: the recording's questions, question 10, then whether the closure of its predecessors
 // has none of its events.
 pub fn verdict(recording: &[u8], pattern: &[u8]) -> model::Verdict
     ensures { λ r. ⌜ r ≡ verdict (now (recording .entry)) (now (pattern .entry)) ⌝ }

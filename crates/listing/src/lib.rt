@@ -83,7 +83,7 @@ fn list_records(records: &[u8], largest: usize, out: &mut [u8]) -> Found
     let mut tasks = [0u8; 4096];
     let mut objects = [0u16; 4096];
     let mut holding = [0u64; 4096];
-    let mut predecessors = [0u16; 4096];
+    let mut predecessors = [0u16; 4112];
     let mut writers = [0u16; 4096];
     let mut matches = [0u16; 4096];
     relations::fill_tables(

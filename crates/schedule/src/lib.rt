@@ -264,7 +264,7 @@ fn judge(records: &[u8], pattern: &[u8], schedule: &[u8]) -> u64
     let mut tasks = [0u8; 4096];
     let mut objects = [0u16; 4096];
     let mut holding = [0u64; 4096];
-    let mut predecessors = [0u16; 4096];
+    let mut predecessors = [0u16; 4112];
     let mut writers = [0u16; 4096];
     let mut matches = [0u16; 4096];
     relations::fill_tables(

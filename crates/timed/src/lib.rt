@@ -37,7 +37,7 @@ fn compare_entries(records: &[u8], n: usize) -> u64
     let mut tasks = [0u8; 4096];
     let mut objects = [0u16; 4096];
     let mut holding = [0u64; 4096];
-    let mut predecessors = [0u16; 4096];
+    let mut predecessors = [0u16; 4112];
     let mut writers = [0u16; 4096];
     let mut matches = [0u16; 4096];
     relations::fill_tables(
@@ -120,7 +120,7 @@ fn decide_with_tables(records: &[u8], pattern: &[u8], rounds: u64) -> u64
     let mut tasks = [0u8; 4096];
     let mut objects = [0u16; 4096];
     let mut holding = [0u64; 4096];
-    let mut predecessors = [0u16; 4096];
+    let mut predecessors = [0u16; 4112];
     let mut writers = [0u16; 4096];
     let mut matches = [0u16; 4096];
     relations::fill_tables(

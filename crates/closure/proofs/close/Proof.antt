@@ -1,4 +1,5 @@
--- `closure::close` meets its contract: questions 1 to 7, 11 and 12, then the set is closed. Assumes nothing.
+-- `closure::close` meets its contract: the recording's questions, 11 and 12, then the set is closed.
+-- Assumes nothing.
 use Prim.Native.Nat.{ℕ, suc, _-_, _*_}
 use mathlib.Core.Path.{_≡_, sym, ap, _∙_}
 use mathlib.Core.Bool.{not}
