@@ -1,6 +1,6 @@
 -- The tests as the code asks them of the tables and the records, case by case. Assumes nothing.
 use Prim.Native.Nat.{ℕ, _*_, _/_, _≤_, _<_}
-use mathlib.Core.Path.{_≡_, _∙_}
+use mathlib.Core.Path.{_≡_, sym, _∙_}
 use mathlib.Core.Logic.{_≢_}
 use mathlib.Core.Bool.{Bool, true, false}
 use mathlib.Core.List.{List}
@@ -8,17 +8,20 @@ use native.Mathlib.Omega.{arith}
 use lib.Dec.{eqb, leb}
 use lib.ListN.{length, getD}
 use borrow.Author.Tests.{eq-eqb, ne-eqb, le-leb, lt-leb}
-use Rattle.model.specs.Trace.{Trace, tasks, variables, task, object, isRead, isAcquire}
-use Rattle.model.specs.Relations.{predecessor, writer}
+use Rattle.model.specs.Trace.{Trace, variables, at, task, object, isRead}
+use Rattle.model.specs.Relations.{predecessor, joined}
 use Rattle.model.specs.Recording.{decodeAll}
 use Rattle.model.specs.Schedule.{mayFollow}
 use Rattle.laws.specs.EventKinds.{marked}
+use Rattle.laws.specs.Walked.{awaited}
 use Rattle.laws.proofs.Trace.{decodeAll-length}
-use Rattle.laws.proofs.Faults.{isRead-op, isAcquire-none}
-use Rattle.laws.proofs.Marks.{WithMark, marked-le, marked-outer}
-use Rattle.laws.proofs.WellFormed.{WellFormed, acquire-lock}
+use Rattle.laws.proofs.Relations.{predecessor-below, joined-none}
+use Rattle.laws.proofs.Operations.{isRead-op, isJoin-none, isAcquire-none}
+use Rattle.laws.proofs.Awaited.{awaited-read, awaited-other, awaited-below}
+use Rattle.laws.proofs.Marks.{WithMark, marked-le, marked-uncounted, marked-outer}
+use Rattle.laws.proofs.WellFormed.{WellFormed, acquire-lt}
 use Rattle.schedule.specs.Listed.{Listed}
-use Rattle.schedule.specs.Next.{isListed, isNext, isUnlocked}
+use Rattle.schedule.specs.Next.{isListed, isReady, isNext, isUnlocked}
 use Rattle.schedule.proofs.Laws.{no-event, not-next, read-follows, acquire-follows, other-follows}
 
 -- ---- one table
@@ -34,10 +37,32 @@ module _ (σ : Trace) (last : List ℕ) (e : ℕ) where
   unfolding isListed
   listed-some t q d = rw (ne-eqb e 0 d, q)
 
-  -- An event is next where its predecessor is the latest listed event of its task.
-  pub next-is : (p t : ℕ) → p ≡ predecessor σ e → t ≡ task σ e → eqb p (getD last t 0) ≡ isNext σ last e
-  unfolding isNext
-  next-is p t q r = rw (q, r)
+  -- What is awaited is there where it is 0,
+  pub ready-none : e ≡ 0 → true ≡ isReady σ last e
+  unfolding isReady
+  ready-none q = rw (eq-eqb e 0 q)
+
+  -- or listed.
+  pub ready-some : (t : ℕ) → t ≡ task σ e → e ≢ 0 → leb e (getD last t 0) ≡ isReady σ last e
+  unfolding isReady
+  ready-some t q d = rw (ne-eqb e 0 d, q)
+
+  module _ {p t : ℕ} (q : p ≡ predecessor σ e) (r : t ≡ task σ e) where
+    -- An event is next where its predecessor is the latest listed event of its task,
+    pub next-own : p ≡ getD last t 0 → true ≡ isNext σ last e
+    unfolding isNext
+    next-own same = rw (← q, ← r, eq-eqb p (getD last t 0) same)
+
+    module _ (d : p ≢ getD last t 0) where
+      -- and not where another one of that is listed;
+      pub next-late : getD last t 0 ≢ 0 → false ≡ isNext σ last e
+      unfolding isNext
+      next-late n = rw (← q, ← r, ne-eqb p (getD last t 0) d, ne-eqb (getD last t 0) 0 n)
+
+      -- where none is, the predecessor decides, the start.
+      pub next-start : getD last t 0 ≡ 0 → isListed σ last p ≡ isNext σ last e
+      unfolding isNext
+      next-start n = rw (← q, ← r, ne-eqb p (getD last t 0) d, eq-eqb (getD last t 0) 0 n)
 
   module _ (acquires : List ℕ) (o : ℕ) (is : o ≡ object σ e) where
     -- A lock of which no acquire is listed is free.
@@ -70,6 +95,16 @@ pub matching-in : (b : List ℕ) (e m : ℕ) → m ≡ marked (decodeAll b) e �
     → 2 * m ≤ length b
 matching-in b e m q h = omega (arith, marked-le (decodeAll b) e h, decodeAll-length b)
 
+-- So is its predecessor,
+pub predecessor-in : (b : List ℕ) (e : ℕ) {p : ℕ} → p ≡ predecessor (decodeAll b) e → 2 * e ≤ length b
+    → 2 * p ≤ length b
+predecessor-in b e q h = omega (arith, predecessor-below (decodeAll b) e)
+
+-- and what it awaits.
+pub awaited-in : (b : List ℕ) (e : ℕ) {w : ℕ} → w ≡ awaited (decodeAll b) e → 2 * e ≤ length b
+    → 2 * w ≤ length b
+awaited-in b e q h = omega (arith, awaited-below (decodeAll b) e)
+
 -- ---- one event more
 
 -- What the code answers for event e is the definition's answer, whatever is listed.
@@ -87,7 +122,7 @@ asked-none b last acquires writes e n before z =
 pub asked-later : (σ : Trace) → WellFormed σ → (last acquires writes : List ℕ) (e : ℕ)
     → (1 ≤ e) × (e ≤ length σ) → isNext σ last e ≡ false → Answers σ last acquires writes e false
 asked-later σ ok last acquires writes e inside n before z =
-    not-next σ before last acquires writes z e inside (ok .task-lt e (inside .0) (inside .1)) n
+    not-next σ before last acquires writes z e inside ok n
 
 -- An event that is next, with its operation and mark as the code has read them.
 pub record Asked (σ : Trace) (last : List ℕ) (e op m : ℕ) : Type 0 where
@@ -97,30 +132,43 @@ pub record Asked (σ : Trace) (last : List ℕ) (e op m : ℕ) : Type 0 where
   pub mark : WithMark σ e op m
 
 module _ {σ : Trace} {last : List ℕ} {e op m : ℕ} (k : Asked σ last e op m) (acquires writes : List ℕ) where
-  small : task σ e < tasks
-  small = k .sound .task-lt e (k .inside .0) (k .inside .1)
+  is-op : op ≡ at σ e .op
+  is-op = k .mark .op-is
 
   unread : op ≢ 0 → isRead σ e ≡ false
-  unread d = isRead-op σ e (k .mark .op-is) ∙ ne-eqb op 0 d
+  unread d = isRead-op σ e is-op ∙ ne-eqb op 0 d
 
   -- A read may follow where the last listed write of its variable is its writer,
-  pub asked-read : op ≡ 0 → (o w : ℕ) → (o < variables) × (o ≡ object σ e) → w ≡ writer σ e
+  pub asked-read : op ≡ 0 → (o w : ℕ) → (o < variables) × (o ≡ object σ e) → w ≡ awaited σ e
       → Answers σ last acquires writes e (eqb (getD writes o 0) w)
-  asked-read r o w is-object is-writer before z =
-      rw (is-object .1, is-writer)
-      (read-follows σ before last acquires writes z e (k .inside) small (k .next)
-      (isRead-op σ e (k .mark .op-is) ∙ eq-eqb op 0 r)
-      (isAcquire-none σ e (k .mark .op-is) (omega arith)) (omega arith))
+  asked-read r o w is-object is-awaited before z =
+      let read = isRead-op σ e is-op ∙ eq-eqb op 0 r in
+      rw (is-object .1, is-awaited ∙ awaited-read σ e read)
+      (read-follows σ before last acquires writes z e (k .inside) (k .sound) (k .next) read
+      (isJoin-none σ e is-op (omega arith)) (isAcquire-none σ e is-op (omega arith)) (omega arith))
 
   -- an outer acquire where its lock is clear,
   pub asked-acquire : op ≡ 2 → m ≢ e → (r : Bool) → r ≡ isUnlocked σ last acquires e
       → Answers σ last acquires writes e r
   asked-acquire a d r is before z =
-      is ∙ acquire-follows σ before last acquires writes z e (k .inside) small (k .next)
-      (unread (omega arith)) (marked-outer (k .mark) a d)
-      (acquire-lock σ (k .sound) e op (k .mark .op-is) a)
+      let outer = marked-outer (k .mark) a d in
+      is ∙ acquire-follows σ before last acquires writes z e (k .inside) (k .sound) (k .next)
+      (unread (omega arith)) (isJoin-none σ e is-op (omega arith)) outer
+      (acquire-lt σ (k .sound) e (rw outer tt))
 
-  -- and another event always.
-  pub asked-other : op ≢ 0 → isAcquire σ e ≡ false → Answers σ last acquires writes e true
-  asked-other d n before z =
-      other-follows σ before last acquires writes z e (k .inside) small (k .next) (unread d) n
+  -- a start or an inner acquire always,
+  pub asked-uncounted : op ≡ 2 → m ≡ e → Answers σ last acquires writes e true
+  unfolding isReady
+  asked-uncounted a q before z =
+      let alone = joined-none σ e (isJoin-none σ e is-op (omega arith)) in
+      let ready : isReady σ last (joined σ e) ≡ true = rw alone in
+      sym ready ∙ other-follows σ before last acquires writes z e (k .inside) (k .sound) (k .next)
+      (unread (omega arith)) (marked-uncounted (k .mark) a q)
+
+  -- and another event where what it awaits is there.
+  pub asked-other : op ≢ 0 → op ≢ 2 → {w : ℕ} → w ≡ awaited σ e → {r : Bool} → r ≡ isReady σ last w
+      → Answers σ last acquires writes e r
+  asked-other d n q is before z =
+      let same = q ∙ awaited-other σ e (unread d) in
+      is ∙ rw same (other-follows σ before last acquires writes z e (k .inside) (k .sound) (k .next) (unread d)
+      (isAcquire-none σ e is-op n))

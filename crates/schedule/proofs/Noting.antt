@@ -19,8 +19,8 @@ use Rattle.laws.specs.Frontier.{Frontier}
 use Rattle.laws.proofs.Tests.{and-i, or-l, or-r, or-elim, T-ext, eq→eqb, equal?, at-most?}
 use Rattle.laws.proofs.Lists.{member-iff, zeros}
 use Rattle.laws.proofs.Trace.{Unpacked, isEvent-iff, sameTask-iff, sameObject-iff}
-use Rattle.laws.proofs.WellFormed.{WellFormed, acquire-lock}
-use Rattle.laws.proofs.Faults.{isWrite-op, isAcquire-none}
+use Rattle.laws.proofs.WellFormed.{WellFormed, acquire-lt}
+use Rattle.laws.proofs.Operations.{isWrite-op, isAcquire-none}
 use Rattle.laws.proofs.Marks.{WithMark, marked-outer}
 use Rattle.laws.proofs.Schedule.{MayFollow, mayFollow-iff}
 use Rattle.schedule.specs.Listed.{UpTo, Acquired, Written, Listed}
@@ -36,6 +36,7 @@ listed-start σ = record {
     front = record { long = refl; own = λ t l d. absurd (d (zeros tasks t)) };
     event = λ e m. absurd (List·Memᴰ·not-nil m);
     listed = λ e h k. rw (zeros tasks (task σ e)) (sym (lt-leb e 0 h));
+    started = λ e m. absurd (List·Memᴰ·not-nil m);
   };
   acquired = record {
     long = length-replicate {A = ℕ} locks 0;
@@ -100,6 +101,8 @@ module _ (σ : Trace) (ρ last : List ℕ) (u : UpTo σ ρ last) (e : ℕ) (m : 
     front = front-next;
     event = λ f i. ⊎-elim (λ (q : f ≡ e). rw q inside) (u .event f) (List·Memᴰ·cases-cons i);
     listed = λ f h k. ⊎-elim (listed-own f h k) (listed-other f h k) (equal? (task σ f) (task σ e));
+    started = λ x i f t. ⊎-elim (λ (q : x ≡ e). List·Memᴰ·tail (m .started f (rw q at t)))
+        (λ j. List·Memᴰ·tail (u .started x j f t)) (List·Memᴰ·cases-cons i);
   }
 
 -- ---- the latest acquire of its lock
@@ -226,7 +229,7 @@ module _ {σ : Trace} {e op t o m : ℕ} (k : Noted σ e op t o m) (last acquire
         let h : T (isAcquire σ e) = rw (marked-outer (k .mark) a d) tt in
         let follows = mayFollow-iff σ before e .0 may in
         rw (k .event .object-is .1) (acquired-next σ before acquires (z .acquired) e h
-        (acquire-lock σ (k .sound) e op (k .mark .op-is) a)
+        (acquire-lt σ (k .sound) e h)
         (λ f i s. (follows .free h f i s, follows .locked h f i s)));
     written = unwritten (omega arith) before z;
   }

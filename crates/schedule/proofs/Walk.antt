@@ -3,7 +3,7 @@ use Prim.Native.Nat.{ℕ, suc, _+_, _*_, _/_, _≤_, _<_}
 use mathlib.Core.Path.{_≡_, refl, sym, _∙_}
 use mathlib.Core.Logic.{⊎-elim}
 use mathlib.Core.Bool.{Bool, true, false, _||_, or-false, true≢false}
-use mathlib.Core.List.{List, [], _∷_}
+use mathlib.Core.List.{List, [], _∷_, List·Memᴰ}
 use native.Mathlib.Numerals.{add-one}
 use native.Mathlib.Omega.{arith}
 use lib.Dec.{T, eqb}
@@ -44,9 +44,16 @@ up-to-ext : (σ : Trace) (ρ ρ′ last : List ℕ) → ((e : ℕ) → member e 
     → UpTo σ ρ′ last
 up-to-ext σ ρ ρ′ last same u = record {
   front = u .front;
-  event = λ e m. u .event e (member-iff e ρ .0 (rw (same e) (member-iff e ρ′ .1 m)));
+  event = λ e m. u .event e (back e m);
   listed = λ e h k. sym (same e) ∙ u .listed e h k;
+  started = λ e m f t. there f (u .started e (back e m) f t);
 }
+  where
+    there : (e : ℕ) → List·Memᴰ e ρ → List·Memᴰ e ρ′
+    there e m = member-iff e ρ′ .0 (rw (← (same e)) (member-iff e ρ .1 m))
+
+    back : (e : ℕ) → List·Memᴰ e ρ′ → List·Memᴰ e ρ
+    back e m = member-iff e ρ .0 (rw (same e) (member-iff e ρ′ .1 m))
 
 -- The indices that the code takes from the tables are in range.
 pub listed-ready : {σ : Trace} {before last acquires writes : List ℕ} → Listed σ before last acquires writes

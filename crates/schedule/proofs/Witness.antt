@@ -29,7 +29,7 @@ next-enabled b ρ last p accepted u events =
     same : (e : ℕ) → List·Memᴰ e p → isNext (decodeAll b) last e ≡ enabled (decodeAll b) ρ e
     same e m =
         let (h, k) = isEvent-iff (decodeAll b) e .0 (all-iff (isEvent (decodeAll b)) p .0 events e m) in
-        enabled-next (decodeAll b) ρ last u e h k (events-sound b accepted .task-lt e h k)
+        enabled-next (decodeAll b) ρ last u (events-sound b accepted) e h k
 
 module _ (b s p : List ℕ) where
   -- What the definitions answer.

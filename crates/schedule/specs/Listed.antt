@@ -10,16 +10,19 @@ use lib.ListN.{length, getD}
 use Rattle.model.specs.Lists.{member}
 use Rattle.model.specs.Bytes.{numbers, isWhole}
 use Rattle.model.specs.Trace.{Trace, tasks, locks, variables, task, object, isAcquire}
+use Rattle.model.specs.Tasks.{starts}
 use Rattle.model.specs.Relations.{matching}
 use Rattle.model.specs.Pattern.{isPattern}
 use Rattle.model.specs.Schedule.{latestWrite, witnesses}
 use Rattle.laws.specs.Frontier.{Frontier}
 
--- For each task the latest listed event, or 0: its listed events are those up to there.
+-- For each task the latest listed event, or 0: its listed events are those up to there, and its start is listed
+-- with them.
 pub record UpTo (σ : Trace) (ρ last : List ℕ) : Type 0 where
   pub front : Frontier σ last
   pub event : (e : ℕ) → List·Memᴰ e ρ → (1 ≤ e) × (e ≤ length σ)
   pub listed : (e : ℕ) → 1 ≤ e → e ≤ length σ → member e ρ ≡ leb e (getD last (task σ e) 0)
+  pub started : (e : ℕ) → List·Memᴰ e ρ → (f : ℕ) → T (starts σ (task σ e) f) → List·Memᴰ f ρ
 
 -- For each lock the latest listed acquire, or 0. Every other listed one has its match listed.
 pub record Acquired (σ : Trace) (before acquires : List ℕ) : Type 0 where

@@ -13,9 +13,16 @@ use Rattle.laws.specs.EventKinds.{marked}
 unfoldable pub isListed : Trace → List ℕ → ℕ → Bool
 isListed σ last e = cond (eqb e 0) false (leb e (getD last (task σ e) 0))
 
--- The event is enabled (01: next): its predecessor is the latest listed event of its task.
+-- What an event awaits is there: it is 0, or listed.
+unfoldable pub isReady : Trace → List ℕ → ℕ → Bool
+isReady σ last x = cond (eqb x 0) true (leb x (getD last (task σ x) 0))
+
+-- The event is enabled (01: next): its predecessor is the latest listed event of its task, or where none of that
+-- is listed, a listed event of another one, its start.
 unfoldable pub isNext : Trace → List ℕ → ℕ → Bool
-isNext σ last e = eqb (predecessor σ e) (getD last (task σ e) 0)
+isNext σ last e =
+    let own = getD last (task σ e) 0 in
+    cond (eqb (predecessor σ e) own) true (cond (eqb own 0) (isListed σ last (predecessor σ e)) false)
 
 -- The outer acquire finds its lock free and keeps lock order: no outer acquire of the lock is listed, or the
 -- latest one is earlier and its match is listed.

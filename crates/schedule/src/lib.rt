@@ -15,11 +15,11 @@ ghost use Rattle.model.specs.Bytes.{numbers, isWhole};
 ghost use Rattle.model.specs.Schedule.{mayFollow, syncPreserving, witnesses};
 ghost use Rattle.model.specs.Calls.Check.{checkEvents};
 ghost use Rattle.model.specs.Calls.CheckSchedule.{checkSchedule};
-ghost use Rattle.laws.specs.Sizes.{recordsLength, tableLength};
+ghost use Rattle.laws.specs.Sizes.{recordsLength, tableLength, orderLength};
 ghost use Rattle.frontier.specs.Visit.{Needed};
 ghost use Rattle.deadlock.specs.Judged.{Holding};
 ghost use Rattle.schedule.specs.Listed.{UpTo, Listed, Ready, answered};
-ghost use Rattle.schedule.specs.Next.{isListed, isNext, isUnlocked};
+ghost use Rattle.schedule.specs.Next.{isListed, isReady, isNext, isUnlocked};
 
 // Whether event e is listed: not 0, and no later than the latest listed event of its task.
 fn is_listed(records: &[u8], last: &[u16], e: u16) -> bool
@@ -32,15 +32,35 @@ fn is_listed(records: &[u8], last: &[u16], e: u16) -> bool
     e <= last[recording::task(records, e as usize) as usize]
 }
 
-// Whether event e comes next in its task: its predecessor is the latest listed event there.
+// Whether what an event awaits is there: it is 0, or listed.
+fn is_ready(records: &[u8], last: &[u16], x: u16) -> bool
+    requires { ⌜ (2 * x ≤ length (now records)) × (length (now last) ≡ tasks) ⌝ }
+    ensures { λ r. ⌜ r ≡ isReady (decodeAll (now (records .entry))) (now (last .entry)) x ⌝ }
+{
+    if x == 0 {
+        return true;
+    }
+    x <= last[recording::task(records, x as usize) as usize]
+}
+
+// Whether event e comes next in its task: its predecessor is the latest listed event there, or where none is,
+// the task's start, which is listed.
 fn is_next(records: &[u8], predecessors: &[u16], last: &[u16], e: u16) -> bool
     requires { ⌜ (1 ≤ e) × (2 * e ≤ length (now records)) × (length (now records) ≤ recordsLength)
-        × (length (now predecessors) ≡ tableLength) × (length (now last) ≡ tasks)
+        × (length (now predecessors) ≡ orderLength) × (length (now last) ≡ tasks)
         × (getD (now predecessors) e 0 ≡ predecessor (decodeAll (now records)) e) ⌝ }
     ensures { λ r. ⌜ r ≡ isNext (decodeAll (now (records .entry))) (now (last .entry)) e ⌝ }
 {
     let at = e as usize;
-    predecessors[at] == last[recording::task(records, at) as usize]
+    let before = predecessors[at];
+    let own = last[recording::task(records, at) as usize];
+    if before == own {
+        return true;
+    }
+    if own != 0 {
+        return false;
+    }
+    is_listed(records, last, before)
 }
 
 // Whether the outer acquire e finds its lock free and keeps lock order: no outer acquire of it is listed, or
@@ -66,7 +86,8 @@ fn is_unlocked(records: &[u8], matches: &[u16], last: &[u16], acquires: &[u16], 
 }
 
 // Whether number e may be listed next: it is an event and comes next in its task; a read's last listed write
-// of its variable is its writer, and an outer acquire finds its lock free and keeps lock order.
+// of its variable is its writer, an outer acquire finds its lock free and keeps lock order, and what a join
+// waits for is listed.
 fn follows(
     records: &[u8],
     predecessors: &[u16],
@@ -99,7 +120,7 @@ fn follows(
         return writes[recording::object(records, at) as usize] == writers[at];
     }
     if op != 2 {
-        return true;
+        return is_ready(records, last, writers[at]);
     }
     if matches[at] == e {
         return true;
@@ -185,7 +206,7 @@ fn keeps_order(
 
 // Whether every event of the pattern comes next in its task after what is listed.
 fn leaves_next(records: &[u8], predecessors: &[u16], pattern: &[u8], last: &[u16]) -> bool
-    requires { ⌜ (length (now records) ≤ recordsLength) × (length (now predecessors) ≡ tableLength)
+    requires { ⌜ (length (now records) ≤ recordsLength) × (length (now predecessors) ≡ orderLength)
         × (length (now last) ≡ tasks) × T (all (isEvent (decodeAll (now records))) (numbers (now pattern)))
         × ((f : ℕ) → 1 ≤ f → f ≤ length (decodeAll (now records))
         → getD (now predecessors) f 0 ≡ predecessor (decodeAll (now records)) f) ⌝ }

@@ -1,4 +1,4 @@
--- `deadlock::verdict` meets its contract: questions 1 to 7, then what is decided of the pattern. Assumes
+-- `deadlock::verdict` meets its contract: the recording's questions, then what is decided of the pattern. Assumes
 -- nothing.
 use mathlib.Core.Path.{_≡_, refl, sym, ap, _∙_}
 use borrow.Author.Needs.{needs}

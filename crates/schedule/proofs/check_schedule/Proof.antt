@@ -1,4 +1,4 @@
--- `schedule::check_schedule` meets its contract: questions 1 to 7, then what is decided. Assumes nothing.
+-- `schedule::check_schedule` meets its contract: the recording's questions, then what is decided. Assumes nothing.
 use mathlib.Core.Path.{_≡_, sym, ap, _∙_}
 use borrow.Author.Needs.{needs}
 use Rattle.model.specs.declared.Outcome.{Outcome}

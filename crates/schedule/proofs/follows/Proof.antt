@@ -8,11 +8,10 @@ use lib.ListN.{length, getD}
 use Rattle.model.specs.Recording.{decodeAll}
 use Rattle.laws.proofs.Trace.{record-event}
 use Rattle.laws.proofs.Questions.{events-sound}
-use Rattle.laws.proofs.Faults.{isAcquire-none}
-use Rattle.laws.proofs.Marks.{marked-inner}
-use Rattle.laws.proofs.WellFormed.{acquire-lock}
+use Rattle.laws.proofs.Marks.{marked-outer}
+use Rattle.laws.proofs.WellFormed.{acquire-lt}
 use Rattle.schedule.proofs.Asking.{Asked, asked-none, asked-later, asked-read, asked-acquire}
-use Rattle.schedule.proofs.Asking.{asked-other}
+use Rattle.schedule.proofs.Asking.{asked-uncounted, asked-other, awaited-in}
 use Rattle.schedule.proofs.follows.Statement.{statement}
 use Rattle.schedule.proofs.follows.Tie as tie
 
@@ -110,10 +109,32 @@ returns-4 c =
     asked-read (unpacked u) _ _ (o .before .if4 .taken) _ _ (o .object .ensures)
     (entry u .pre .2 .reading .writer-at _ h k)
 
+mul-is-ready : tie.Need-mul-is-ready
+mul-is-ready c = search needs
+
+shared-slice-read-is-ready : tie.Need-shared-slice-read-is-ready
+shared-slice-read-is-ready c =
+    let u = c .before .before .before in
+    let s = entry u in
+    omega (arith, recorded (u .before .before .before), s .pre .0, s .pre .2 .reading .writer-long)
+
+is-ready-requires : tie.Need-is-ready-requires
+is-ready-requires c κs =
+    let u = c .before .before .before in
+    let s = entry u in
+    let (h, k) = unpacked u .inside in (
+      awaited-in (s .args .records .now) (s .args .e) (s .pre .2 .reading .writer-at (s .args .e) h k)
+          (recorded (u .before .before .before) .1),
+      s .pre .3 .last-long,
+    )
+
 returns-5 : tie.Need-returns-5
 returns-5 c =
-    let u = unpacked (c .before .before) in
-    asked-other u _ _ (c .before .if4 .left) (isAcquire-none _ _ (u .mark .op-is) (c .if5 .taken))
+    let e = c .before .before in
+    let u = e .before .before in
+    let (h, k) = unpacked u .inside in
+    asked-other (unpacked u) _ _ (e .before .if4 .left) (e .if5 .taken)
+    (entry u .pre .2 .reading .writer-at _ h k) (c .is-ready .ensures)
 
 mul-if6 : tie.Need-mul-if6
 mul-if6 c = search needs
@@ -128,14 +149,15 @@ returns-6 : tie.Need-returns-6
 returns-6 c =
     let e = c .before .before in
     let u = unpacked (e .before .before) in
-    asked-other u _ _ (e .before .if4 .left) (marked-inner (u .mark) (e .if5 .left) (c .if6 .taken))
+    asked-uncounted u _ _ (e .if5 .left) (c .if6 .taken)
 
 is-unlocked-requires : tie.Need-is-unlocked-requires
 is-unlocked-requires c κs =
     let e = c .before .before in
     let u = unpacked (e .before .before) in
     let s = entry (e .before .before) in
-    let lock = acquire-lock _ (u .sound) _ _ (u .mark .op-is) (e .if5 .left) in (
+    let outer = marked-outer (u .mark) (e .if5 .left) (c .if6 .left) in
+    let lock = acquire-lt _ (u .sound) (s .args .e) (rw outer tt) in (
       u .inside .0,
       recorded (e .before .before .before .before .before) .1,
       s .pre .0,
@@ -169,6 +191,9 @@ follows-spec =
     mul-result-2
     shared-slice-read-result-2
     returns-4
+    mul-is-ready
+    shared-slice-read-is-ready
+    is-ready-requires
     returns-5
     mul-if6
     shared-slice-read-if6

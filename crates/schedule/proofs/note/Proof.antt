@@ -4,9 +4,9 @@ use borrow.Author.Needs.{needs}
 use lib.ListN.{getD}
 use Rattle.model.specs.Recording.{decodeAll}
 use Rattle.laws.proofs.Questions.{events-sound}
-use Rattle.laws.proofs.Faults.{isAcquire-none}
-use Rattle.laws.proofs.Marks.{marked-inner}
-use Rattle.laws.proofs.WellFormed.{acquire-lock}
+use Rattle.laws.proofs.Operations.{isAcquire-none}
+use Rattle.laws.proofs.Marks.{marked-uncounted, marked-outer}
+use Rattle.laws.proofs.WellFormed.{acquire-lt}
 use Rattle.schedule.proofs.Noting.{Noted, write-noted, acquire-noted, other-noted}
 use Rattle.schedule.proofs.note.Statement.{statement}
 use Rattle.schedule.proofs.note.Tie as tie
@@ -90,7 +90,8 @@ slice-write-acquires : tie.Need-slice-write-acquires
 slice-write-acquires c =
     let e = c .before .before in
     let u = unpacked (e .before .before) in
-    let lock = acquire-lock _ (u .sound) _ _ (u .mark .op-is) (e .if2 .left) in
+    let outer = marked-outer (u .mark) (e .if2 .left) (c .if3 .taken) in
+    let lock = acquire-lt _ (u .sound) (start (e .before .before) .args .e) (rw outer tt) in
     omega (arith, lock, u .event .object-is, start (e .before .before) .pre .5 .acquire-long)
 
 same-length-4 : tie.Need-same-length-4
@@ -111,7 +112,7 @@ returns-4 : tie.Need-returns-4
 returns-4 c =
     let e = c .before .before in
     let u = unpacked (e .before .before) in
-    other-noted u _ _ _ (e .before .if1 .left) (marked-inner (u .mark) (e .if2 .left) (c .if3 .left))
+    other-noted u _ _ _ (e .before .if1 .left) (marked-uncounted (u .mark) (e .if2 .left) (c .if3 .left))
 
 pub note-spec : {M : Type 1} → statement M
 note-spec =
