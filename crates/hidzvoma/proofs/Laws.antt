@@ -10,8 +10,10 @@ use lib.ListN.{length, getD, drop, length-drop}
 use borrow.Author.Tests.{eqb-false}
 use Rattle.model.specs.declared.Outcome.{Outcome}
 use Rattle.model.specs.Recording.{format, eventCount, trace}
-use Rattle.model.specs.WellFormed.{isFree, fault, firstFault}
-use Rattle.model.specs.Trace.{Trace, locks, task, object, isRead, enters, leaves}
+use Rattle.model.specs.WellFormed.{isFree, isNew, isOver, joinsOwn, fault, firstFault}
+use Rattle.model.specs.Trace.{Trace, syncObjects, task, object, isRead, hasAcquireOp, hasReleaseOp}
+use Rattle.model.specs.Trace.{enters, leaves}
+use Rattle.model.specs.Tasks.{isStart}
 use Rattle.model.specs.Relations.{writer, holds}
 use Rattle.model.specs.Bytes.{numbers, isWhole}
 use Rattle.model.specs.Pattern.{smallestPattern, largestPattern, isPattern}
@@ -30,11 +32,11 @@ use Rattle.laws.proofs.Questions.{check-short, check-format, check-length, chec
 
 -- A number of a question, and of an event.
 pub record Small (o : Outcome) : Type 0 where
-  pub refusal-le : o .refusal ≤ 14
+  pub refusal-le : o .refusal ≤ 16
   pub event-le : o .event ≤ 4095
 
 -- A question's.
-pub asked-small : (n : ℕ) (b : Bool) → n ≤ 14 → Small (asked n b)
+pub asked-small : (n : ℕ) (b : Bool) → n ≤ 16 → Small (asked n b)
 asked-small n true l = record { refusal-le = omega arith; event-le = omega arith }
 asked-small n false l = record { refusal-le = l; event-le = omega arith }
 
@@ -43,19 +45,21 @@ pub then-small : (o p : Outcome) → Small o → Small p → Small (o then p)
 then-small o p s t = cond-elim Small (isAccepted o) p o (λ y. t) (λ n. s)
 
 -- A fault's number.
-fault-le : (σ : Trace) (e : ℕ) → fault σ e ≤ 7
+fault-le : (σ : Trace) (e : ℕ) → fault σ e ≤ 16
 unfolding fault
 fault-le σ e =
-    number ((enters σ e || leaves σ e) && not (ltb (object σ e) locks)) (enters σ e && not (isFree σ
-    e))
-    (leaves σ e && not (holds σ e (task σ e) (object σ e))) (isRead σ e && eqb (writer σ e) 0)
+    number ((hasAcquireOp σ e || hasReleaseOp σ e) && not (ltb (object σ e) syncObjects))
+    (enters σ e && not (isFree σ e)) (leaves σ e && not (holds σ e (task σ e) (object σ e)))
+    (isRead σ e && eqb (writer σ e) 0) (isStart σ e && not (isNew σ e)) (joinsOwn σ e || isOver σ e)
   where
-    number : (a b c d : Bool) → cond a 4 (cond b 5 (cond c 6 (cond d 7 0))) ≤ 7
-    number true b c d = omega arith
-    number false true c d = omega arith
-    number false false true d = omega arith
-    number false false false true = omega arith
-    number false false false false = omega arith
+    below : (b : Bool) (n r : ℕ) → n ≤ 16 → r ≤ 16 → cond b n r ≤ 16
+    below b n r h k = cond-elim (λ x. x ≤ 16) b n r (λ _. h) (λ _. k)
+
+    number : (a b c d f g : Bool)
+        → cond a 4 (cond b 5 (cond c 6 (cond d 7 (cond f 15 (cond g 16 0))))) ≤ 16
+    number a b c d f g =
+        below a 4 _ (omega arith) (below b 5 _ (omega arith) (below c 6 _ (omega arith)
+        (below d 7 _ (omega arith) (below f 15 _ (omega arith) (below g 16 0 (omega arith) (omega arith))))))
 
 -- The events'.
 events-small : (σ : Trace) → length σ ≤ 4095 → Small (checkEvents σ)

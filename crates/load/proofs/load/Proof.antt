@@ -58,8 +58,7 @@ part-count-held-end c = search needs
 count-held-requires : tie.Need-count-held-requires
 count-held-requires c κs =
     let b = c .before .before .before .before .before .before .before .args .recording .now in
-    let ok = accepted (c .before .before .before) in
-    (
+    let ok = accepted (c .before .before .before) in (
       omega (arith, c .before .event-count .ensures, part-length b ok),
       part-accepted b ok,
       c .before .before .if2 .left,
