@@ -1,8 +1,8 @@
 /* Times the check of recordings, and the filling of their tables, against a plain C loop that does the same
- * as the check: holder and depth of each lock, latest write of each variable, each event unpacked by shifts.
- * Recordings are read from the files given as arguments. First sees that the answers agree, on every
- * beginning of a recording and with a bit of each byte turned; then measures all three in turn, and prints
- * medians. */
+ * as the check: holder and depth of each lock, latest write of each variable, tasks begun and tasks joined,
+ * each event unpacked by shifts. Recordings are read from the files given as arguments. First sees that the
+ * answers agree, on every beginning of a recording and with a bit of each byte turned; then measures all
+ * three in turn, and prints medians. */
 #include <stdint.h>
 #include <stdio.h>
 #include <stdlib.h>
@@ -21,7 +21,7 @@ struct outcome {
     uint64_t refusal, event;
 };
 
-/* Questions 1 to 7. */
+/* Questions 1 to 7, 15 and 16. A task has begun with its start or its first event. */
 __attribute__((noipa)) static struct outcome check(const uint8_t *recording, size_t length) {
     if (length < 2)
         return (struct outcome){1, 0};
@@ -33,6 +33,7 @@ __attribute__((noipa)) static struct outcome check(const uint8_t *recording, siz
     uint8_t holders[64] = {0};
     uint16_t depths[64] = {0};
     uint16_t writes[1024] = {0};
+    unsigned begun = 0, joined = 0;
     for (size_t e = 1; e <= n; e++) {
         unsigned op = recording[2 * e] >> 6;
         unsigned task = recording[2 * e] >> 2 & 15;
@@ -42,8 +43,19 @@ __attribute__((noipa)) static struct outcome check(const uint8_t *recording, siz
                 return (struct outcome){7, e};
         } else if (op == 1) {
             writes[object] = (uint16_t)e;
-        } else if (object > 63) {
+        } else if (object > 79) {
             return (struct outcome){4, e};
+        } else if (object > 63) {
+            unsigned other = object - 64;
+            if (op == 2) {
+                if (other == task || ((begun | joined) >> other & 1) != 0)
+                    return (struct outcome){15, e};
+                begun |= 1u << other;
+            } else {
+                if (other == task)
+                    return (struct outcome){16, e};
+                joined |= 1u << other;
+            }
         } else if (op == 2) {
             if (holders[object] != 0 && holders[object] != task + 1)
                 return (struct outcome){5, e};
@@ -55,6 +67,9 @@ __attribute__((noipa)) static struct outcome check(const uint8_t *recording, siz
             if (--depths[object] == 0)
                 holders[object] = 0;
         }
+        if ((joined >> task & 1) != 0)
+            return (struct outcome){16, e};
+        begun |= 1u << task;
     }
     return (struct outcome){0, 0};
 }
@@ -64,8 +79,8 @@ __attribute__((noipa)) static uint64_t c_check(const uint8_t *recording, size_t 
 }
 
 /* What timed_tables has to return for an accepted recording of n events: the relations of the last one, each
- * searched for by its definition, and compared as there; an inner acquire or release has its own number in
- * the table of matches. With no event, every table has 0. */
+ * searched for by its definition, and compared as there; an inner acquire or release, a start and a join
+ * have their own number in the table of matches. With no event, every table has 0. */
 static uint64_t last_entries(const uint8_t *recording, size_t n) {
     unsigned first = n == 0 ? 0 : recording[2 * n];
     unsigned op = first >> 6, task = first >> 2 & 15;
@@ -76,23 +91,23 @@ static uint64_t last_entries(const uint8_t *recording, size_t n) {
     for (size_t e = 1; e < n; e++) {
         unsigned other = recording[2 * e], o = (other & 3) << 8 | recording[2 * e + 1];
         int own = (other >> 2 & 15) == task;
-        if (own)
+        if (own || (other >> 6 == 2 && o == 64 + task))
             predecessor = e;
         if (op == 0 && other >> 6 == 1 && o == object)
             writer = e;
-        if (own && other >> 6 == 2 && depths[o]++ == 0) {
+        if (own && other >> 6 == 2 && o < 64 && depths[o]++ == 0) {
             held |= (uint64_t)1 << o;
             if (o == object)
                 outer = e;
         }
-        if (own && other >> 6 == 3 && --depths[o] == 0)
+        if (own && other >> 6 == 3 && o < 64 && --depths[o] == 0)
             held &= ~((uint64_t)1 << o);
     }
     size_t match = 0;
-    if (op == 2 && depths[object] != 0)
+    if (op == 2 && (object > 63 || depths[object] != 0))
         match = n;
     if (op == 3)
-        match = depths[object] == 1 ? outer : n;
+        match = object < 64 && depths[object] == 1 ? outer : n;
     return op == task ? 1 : object == match ? 2 : predecessor == writer ? 3 : held == 0 ? 4 : 0;
 }
 

@@ -6,9 +6,12 @@
 #include <stdio.h>
 #include <stdlib.h>
 
-enum { LARGEST = 8192, ROOM = 65536, LAST_OF_RECORDING = 7 };
+enum { LARGEST = 8192, ROOM = 65536 };
 
 typedef uint64_t listing(const uint8_t *, size_t, uint64_t, uint8_t *, size_t);
+
+/* The refusal is by a question about the recording. */
+static int of_recording(uint64_t refusal) { return refusal <= 7 || refusal == 15 || refusal == 16; }
 
 static void fail(const char *what, const char *name) {
     fprintf(stderr, "counts: %s: %s\n", what, name);
@@ -27,5 +30,5 @@ int main(int count, char **words) {
     uint64_t size = strtoull(words[3], NULL, 10), answer = 0;
     for (long calls = strtol(words[4], NULL, 10); calls > 0; calls--)
         answer = list(recording, length, size, out, ROOM);
-    return answer % 2 == 1 && answer / 131072 <= LAST_OF_RECORDING;
+    return answer % 2 == 1 && of_recording(answer / 131072);
 }

@@ -7,9 +7,9 @@
  * asks for the verdicts of patterns. The same arguments give the same calls. Each call is made three times,
  * and has to give the same answer: with bytes that end where a page begins that cannot be touched, with bytes
  * that begin where such a page ends, and with bytes of exactly their length from malloc, which valgrind
- * watches. What is lent for reading only lies in pages that cannot be written. Questions 1 to 8, 10 and 13
- * are answered here once more; listing and verdict are held against each other. Prints how often each answer
- * came; the exit status is 1 where a promise is not kept, and where an answer never came. */
+ * watches. What is lent for reading only lies in pages that cannot be written. Questions 1 to 8, 10, 13, 15
+ * and 16 are answered here once more; listing and verdict are held against each other. Prints how often each
+ * answer came; the exit status is 1 where a promise is not kept, and where an answer never came. */
 #include "hidzvoma.h"
 
 #include <stdbool.h>
@@ -34,17 +34,20 @@ struct bytes {
     size_t length;
 };
 
-/* What is being tried: the recording, its refusal by questions 1 to 7 or 0, and the call's arguments. */
+/* What is being tried: the recording, its refusal by questions 1 to 7, 15 and 16 or 0, and the call's
+ * arguments. */
 static struct {
     uint64_t seed, round, refusal, largest;
     struct bytes recording, pattern;
     size_t out_length;
 } tried;
 
-/* The locks that the task of each event holds right before it, and how many inner acquires there are, if the
- * recording tried is well-formed. */
+/* The locks that the task of each event holds right before it, the latest event of each task that is the
+ * event or comes before it by task order, starts and joins, and how many inner acquires, starts and joins
+ * there are, if the recording tried is well-formed. */
 static uint64_t held[EVENTS + 1];
-static size_t inner_acquires;
+static uint16_t earlier[EVENTS + 1][TASKS];
+static size_t inner_acquires, starts, joins;
 
 static void print_bytes(const char *name, struct bytes bytes) {
     printf("%s, %zu bytes:", name, bytes.length);
@@ -144,35 +147,100 @@ static uint64_t refused(uint64_t refusal, uint64_t event) {
     return 2 * (65536 * refusal + event) + 1;
 }
 
-/* Questions 4 to 7, event by event: the refusal, or 0. Fills in the held locks, and counts inner acquires. */
+/* Whether an event starts or joins a task. */
+static bool names_task(struct bytes recording, size_t event) {
+    unsigned op = operation(recording, event), x = object(recording, event);
+    return (op == ACQUIRE || op == RELEASE) && LOCKS <= x && x < LOCKS + TASKS;
+}
+
+/* Puts another event, or none for 0, and what comes before it, before an event. */
+static void put_earlier(size_t event, size_t other) {
+    for (size_t t = 0; t < TASKS; t++)
+        if (earlier[event][t] < earlier[other][t])
+            earlier[event][t] = earlier[other][t];
+}
+
+/* What the events so far say of each task: its start and its latest event, or 0, and whether it is joined. */
+struct tasks {
+    size_t start[TASKS], latest[TASKS];
+    bool is_joined[TASKS];
+};
+
+/* Whether a task is started or has an event. */
+static bool has_begun(const struct tasks *tasks, size_t t) {
+    return tasks->start[t] != 0 || tasks->latest[t] != 0;
+}
+
+/* Questions 15 and 16 of an event: the refusal, or 0. Fills in what comes before it, and counts starts and
+ * joins. */
+static uint64_t walk_tasks(struct bytes recording, size_t e, struct tasks *tasks) {
+    unsigned t = task(recording, e), other = object(recording, e) % LOCKS;
+    bool is_start = names_task(recording, e) && operation(recording, e) == ACQUIRE;
+    bool is_join = names_task(recording, e) && operation(recording, e) == RELEASE;
+    if (is_start && (other == t || has_begun(tasks, other) || tasks->is_joined[other]))
+        return refused(15, e);
+    if ((is_join && other == t) || tasks->is_joined[t])
+        return refused(16, e);
+    memset(earlier[e], 0, sizeof earlier[e]);
+    put_earlier(e, tasks->start[t]);
+    put_earlier(e, tasks->latest[t]);
+    earlier[e][t] = (uint16_t)e;
+    tasks->latest[t] = e;
+    if (is_start)
+        tasks->start[other] = e;
+    if (is_join) {
+        tasks->is_joined[other] = true;
+        put_earlier(e, tasks->start[other]);
+        put_earlier(e, tasks->latest[other]);
+    }
+    starts += is_start;
+    joins += is_join;
+    return 0;
+}
+
+/* Questions 5 and 6 of an acquire or release: the refusal, or 0. Takes note of the event: the locks of its
+ * task, and the depth in its lock. */
+static uint64_t walk_locks(struct bytes recording, size_t e, uint64_t *own, unsigned depths[LOCKS]) {
+    unsigned op = operation(recording, e), x = object(recording, e);
+    if (op == ACQUIRE && depths[x] != 0 && !has(*own, x))
+        return refused(5, e);
+    if (op == RELEASE && !has(*own, x))
+        return refused(6, e);
+    inner_acquires += op == ACQUIRE && depths[x] != 0;
+    if (op == ACQUIRE ? depths[x]++ == 0 : --depths[x] == 0)
+        *own ^= (uint64_t)1 << x;
+    return 0;
+}
+
+/* Questions 4 to 7, 15 and 16, event by event: the refusal, or 0. Fills in the held locks and what comes
+ * before each event, and counts inner acquires, starts and joins. */
 static uint64_t walk_events(struct bytes recording) {
     uint64_t own[TASKS] = {0};
     unsigned depths[LOCKS] = {0};
     bool is_written[VARIABLES] = {false};
-    inner_acquires = 0;
+    struct tasks tasks = {0};
+    inner_acquires = starts = joins = 0;
     for (size_t e = 1; e <= count_events(recording); e++) {
         unsigned op = operation(recording, e), t = task(recording, e), x = object(recording, e);
+        uint64_t refusal = 0;
         held[e] = own[t];
-        if (op == READ && !is_written[x])
-            return refused(7, e);
-        if (op == WRITE)
+        if ((op == ACQUIRE || op == RELEASE) && LOCKS + TASKS <= x)
+            refusal = refused(4, e);
+        else if ((op == ACQUIRE || op == RELEASE) && x < LOCKS)
+            refusal = walk_locks(recording, e, &own[t], depths);
+        else if (op == READ && !is_written[x])
+            refusal = refused(7, e);
+        else if (op == WRITE)
             is_written[x] = true;
-        if (op == READ || op == WRITE)
-            continue;
-        if (x >= LOCKS)
-            return refused(4, e);
-        if (op == ACQUIRE && depths[x] != 0 && !has(own[t], x))
-            return refused(5, e);
-        if (op == RELEASE && !has(own[t], x))
-            return refused(6, e);
-        inner_acquires += op == ACQUIRE && depths[x] != 0;
-        if (op == ACQUIRE ? depths[x]++ == 0 : --depths[x] == 0)
-            own[t] ^= (uint64_t)1 << x;
+        if (refusal == 0)
+            refusal = walk_tasks(recording, e, &tasks);
+        if (refusal != 0)
+            return refusal;
     }
     return 0;
 }
 
-/* Questions 1 to 7: the refusal, or 0. */
+/* Questions 1 to 7, 15 and 16: the refusal, or 0. */
 static uint64_t check_recording(struct bytes recording) {
     if (recording.length < 2)
         return refused(1, 0);
@@ -203,7 +271,7 @@ static bool is_pattern(struct bytes recording, struct bytes pattern) {
         if (e == 0 || count_events(recording) < e || next == 0 || count_events(recording) < next)
             return false;
         unsigned t = task(recording, e), lock = object(recording, e);
-        if (operation(recording, e) != ACQUIRE || has(held[e], lock))
+        if (operation(recording, e) != ACQUIRE || names_task(recording, e) || has(held[e], lock))
             return false;
         if (e < number(pattern.at) || !has(held[next], lock))
             return false;
@@ -214,6 +282,17 @@ static bool is_pattern(struct bytes recording, struct bytes pattern) {
         all_held |= held[e];
     }
     return true;
+}
+
+/* Whether starts and joins part a pattern: one of its events comes before another one. */
+static bool is_parted(struct bytes recording, struct bytes pattern) {
+    for (size_t i = 0; i < pattern.length; i += 2)
+        for (size_t j = 0; j < pattern.length; j += 2) {
+            unsigned e = number(pattern.at + i), f = number(pattern.at + j);
+            if (e != f && e <= earlier[f][task(recording, e)])
+                return true;
+        }
+    return false;
 }
 
 /* ---- well-formed recordings by a random walk */
@@ -233,6 +312,10 @@ struct walk {
     size_t follow;
     /* The chance of a read or a write. */
     size_t access;
+    /* The chance that a task waits for its start, and that one starts another where it can. */
+    size_t wait, start;
+    /* About how many joins there are. */
+    size_t join;
     /* Whether the tasks come in turn, and not at random. */
     bool in_turn;
     /* What is added to every task and lock, modulo 16 and 64. */
@@ -240,9 +323,11 @@ struct walk {
 };
 
 /* Where a walk is: which locks are held, those of each task, the newest last and as often as it holds them,
- * which variables are written, and which tasks release all their locks. */
+ * which variables are written, and which tasks release all their locks, wait for their start, were started or
+ * have an event, and were joined. */
 struct state {
     bool is_held[LOCKS], is_written[VARIABLES], is_leaving[TASKS];
+    bool is_waiting[TASKS], has_begun[TASKS], is_joined[TASKS];
     uint8_t held[TASKS][MOST_HELD];
     size_t count[TASKS];
 };
@@ -258,6 +343,9 @@ static struct walk any_walk(void) {
     walk.follow = chance(50) ? 0 : between(1, 100);
     walk.again = chance(50) ? 0 : between(1, 60);
     walk.access = chance(60) ? 0 : between(1, 50);
+    walk.start = chance(50) ? 0 : between(1, 60);
+    walk.wait = walk.start == 0 ? 0 : between(0, 100);
+    walk.join = chance(50) ? 0 : between(1, 6);
     walk.shift = below(LOCKS);
     return walk;
 }
@@ -317,17 +405,52 @@ static size_t step(const struct walk *walk, struct state *state, size_t t) {
     return RELEASE << 14 | (lock + walk->shift) % LOCKS;
 }
 
+/* A start or join by a task in a walk of so many events, but for its task; or 0, which is neither. A task is
+ * mostly joined without locks, as one that ends with some keeps them from the others. */
+static size_t start_or_join(const struct walk *walk, struct state *state, size_t t, size_t events) {
+    size_t other = below(chance(80) ? walk->tasks : TASKS);
+    size_t named = LOCKS + (other + walk->shift) % TASKS;
+    if (other == t)
+        return 0;
+    if (!state->has_begun[other] && !state->is_joined[other] && chance(walk->start)) {
+        state->has_begun[other] = true;
+        state->is_waiting[other] = false;
+        return ACQUIRE << 14 | named;
+    }
+    if ((state->count[other] == 0 || chance(5)) && below(events) < walk->join) {
+        state->is_joined[other] = true;
+        return RELEASE << 14 | named;
+    }
+    return 0;
+}
+
+/* The task of the next event: that of the last one, if it holds a lock and goes on, or any that neither waits
+ * nor was joined. That of the last one is such a task, so there always is one. */
+static size_t next_task(const struct walk *walk, const struct state *state, size_t t) {
+    if (state->count[t] > 0 && chance(walk->stay))
+        return t;
+    do
+        t = walk->in_turn ? (t + 1) % walk->tasks : below(walk->tasks);
+    while (state->is_waiting[t] || state->is_joined[t]);
+    return t;
+}
+
 /* Makes a well-formed recording with so many events. */
 static void make_recording(struct bytes *recording, size_t events) {
     struct walk walk = chance(30) ? any_ring() : any_walk();
     struct state state = {0};
-    size_t t = 0;
+    size_t first = below(walk.tasks), t = first;
+    for (size_t other = 0; other < walk.tasks; other++)
+        state.is_waiting[other] = other != first && chance(walk.wait);
     recording->length = 2 + 2 * events;
     put_header(*recording, events);
     for (size_t e = 1; e <= events; e++) {
-        if (state.count[t] == 0 || !chance(walk.stay))
-            t = walk.in_turn ? (t + 1) % walk.tasks : below(walk.tasks);
-        put_number(recording->at + 2 * e, step(&walk, &state, t) | (t + walk.shift) % TASKS << 10);
+        t = next_task(&walk, &state, t);
+        state.has_begun[t] = true;
+        size_t event = start_or_join(&walk, &state, t, events);
+        if (event == 0)
+            event = step(&walk, &state, t);
+        put_number(recording->at + 2 * e, event | (t + walk.shift) % TASKS << 10);
     }
 }
 
@@ -349,9 +472,16 @@ static void extend(struct bytes *bytes, size_t most, size_t memory) {
     bytes->length += added;
 }
 
-static void replace_event(struct bytes recording) {
-    size_t objects = chance(50) ? VARIABLES : LOCKS + 6;
-    size_t event = below(64) << 10 | below(objects);
+static size_t any_event(void) {
+    return below(64) << 10 | below(chance(50) ? VARIABLES : LOCKS + TASKS + 6);
+}
+
+static size_t any_start_or_join(void) {
+    return between(ACQUIRE, RELEASE) << 14 | below(TASKS) << 10 | (LOCKS + below(TASKS));
+}
+
+/* Puts an event in the place of another. */
+static void replace_event(struct bytes recording, size_t event) {
     if (count_events(recording) > 0)
         put_number(recording.at + 2 * between(1, count_events(recording)), event);
 }
@@ -376,15 +506,17 @@ static void make_any_bytes(struct bytes *recording) {
 
 /* Changes the bytes of a recording in one of many ways. */
 static void damage_recording(struct bytes *recording) {
-    switch (below(9)) {
+    switch (below(11)) {
     case 0: flip_bits(*recording); break;
     case 1: recording->length = below(recording->length + 1); break;
     case 2: recording->length = below(4); break;
     case 3: extend(recording, chance(80) ? 4 : RECORDING, RECORDING); break;
     case 4: put_header(*recording, below(EVENTS + 1)); break;
     case 5: recording->at[0] ^= (uint8_t)(between(1, 15) << 4); break;
-    case 6: replace_event(*recording); break;
+    case 6: replace_event(*recording, any_event()); break;
     case 7: swap_events(*recording); break;
+    case 8:
+    case 9: replace_event(*recording, any_start_or_join()); break;
     default: make_any_bytes(recording);
     }
 }
@@ -456,8 +588,9 @@ static uint64_t verdict_in(enum place place, struct bytes recording, struct byte
 
 /* ---- what every answer has to be */
 
-/* How often each refusal came, with 0 for none; and how often the verdicts "not" and deadlock. */
-static size_t list_answers[14], verdict_answers[14], verdicts[2];
+/* How often each refusal came, with 0 for none; how often the verdicts "not" and deadlock; and how often a
+ * pattern was tried that starts and joins part. */
+static size_t list_answers[17], verdict_answers[17], verdicts[2], parted;
 
 /* Lists into the output, which begins as random bytes, in each place; sees that the answers are equal, and
  * that no byte has changed but for those said to be written. */
@@ -478,7 +611,7 @@ static uint64_t list(struct bytes recording, uint64_t largest, struct bytes out)
         expect(m == n && memcmp(out.at, again, out.length) == 0, "two listings differ");
     }
     if (tried.refusal != 0)
-        expect(n == tried.refusal, "a listing that answers questions 1 to 7 in another way");
+        expect(n == tried.refusal, "a listing that answers questions 1 to 7, 15 and 16 in another way");
     else if (!is_size(largest))
         expect(n == refused(8, 0), "a listing that answers question 8 in another way");
     else
@@ -501,22 +634,25 @@ static uint64_t verdict(struct bytes recording, struct bytes pattern) {
         expect(m == n, "two verdicts differ");
     }
     if (tried.refusal != 0)
-        expect(n == tried.refusal, "a verdict that answers questions 1 to 7 in another way");
+        expect(n == tried.refusal, "a verdict that answers questions 1 to 7, 15 and 16 in another way");
     else if (!is_pattern(recording, pattern))
         expect(n == refused(10, 0), "a verdict that answers question 10 in another way");
     else
         expect(n == 0 || n == 2, "a verdict with an impossible number");
     verdict_answers[hidzvoma_refusal(n)]++;
-    if (n % 2 == 0)
+    if (n % 2 == 0) {
         verdicts[n / 2]++;
+        expect(n == 0 || !is_parted(recording, pattern), "a deadlock of events that starts and joins part");
+        parted += is_parted(recording, pattern);
+    }
     return n;
 }
 
 /* ---- listings */
 
 /* How many entries of each size were listed, how many of them of more than two events with size 0, and how
- * many in recordings with inner acquires. */
-static size_t entries[17], larger_with_0, entries_with_inner;
+ * many in recordings with inner acquires, with starts and with joins. */
+static size_t entries[17], larger_with_0, entries_with_inner, entries_with_starts, entries_with_joins;
 
 /* Sees that a listing is patterns of permitted sizes in ascending order, each with the verdict deadlock, and
  * nothing behind the last one. */
@@ -534,9 +670,12 @@ static void check_listing(struct bytes recording, uint64_t largest, struct bytes
         expect(at == 0 || memcmp(last.at, pattern.at, shorter) < 0, "entries that are not in order");
         expect(hidzvoma_verdict(recording.at, recording.length, pattern.at, pattern.length) == 2,
                "an entry whose verdict is not deadlock");
+        expect(!is_parted(recording, pattern), "an entry of events that starts and joins part");
         entries[size]++;
         larger_with_0 += largest == 0 && size > 2;
         entries_with_inner += inner_acquires > 0;
+        entries_with_starts += starts > 0;
+        entries_with_joins += joins > 0;
         last = pattern;
     }
 }
@@ -728,10 +867,12 @@ static void check_pairs(struct bytes recording, struct bytes listing) {
         for (size_t f = e + 1; f <= events; f++) {
             put_number(pair.at, e);
             put_number(pair.at + 2, f);
-            if (is_pattern(recording, pair))
-                expect((hidzvoma_verdict(recording.at, recording.length, pair.at, pair.length) == 2) ==
-                           lists(listing, pair),
-                       "a pair whose verdict the listing contradicts");
+            if (!is_pattern(recording, pair))
+                continue;
+            expect((hidzvoma_verdict(recording.at, recording.length, pair.at, pair.length) == 2) ==
+                       lists(listing, pair),
+                   "a pair whose verdict the listing contradicts");
+            parted += is_parted(recording, pair);
         }
 }
 
@@ -778,10 +919,10 @@ static void try_round(size_t most_events) {
 
 /* Prints how often a call was answered, and how often it was refused with each number that it may give;
  * returns how many of these never came. */
-static size_t print_answers(const char *call, const size_t answers[14], const char *may_give) {
+static size_t print_answers(const char *call, const size_t answers[17], const char *may_give) {
     size_t missing = answers[0] == 0;
     printf("%s: answered %zu, refused", call, answers[0]);
-    for (size_t i = 1; i < 14; i++)
+    for (size_t i = 1; i < 17; i++)
         if (may_give[i] == 'x') {
             printf("%s %zu: %zu", i == 1 ? "" : ",", i, answers[i]);
             missing += answers[i] == 0;
@@ -803,17 +944,22 @@ int main(int argc, char **argv) {
     out_pages = make_pages(OUT);
     for (tried.round = 1; tried.round <= rounds; tried.round++)
         try_round(most_events < EVENTS ? most_events : EVENTS);
-    size_t missing = print_answers("list", list_answers, "-xxxxxxxx----x");
-    missing += print_answers("verdict", verdict_answers, "-xxxxxxx--x---");
+    size_t missing = print_answers("list", list_answers, "-xxxxxxxx----x-xx");
+    missing += print_answers("verdict", verdict_answers, "-xxxxxxx--x----xx");
     missing += verdicts[0] == 0;
     missing += verdicts[1] == 0;
     printf("verdicts: deadlock %zu, not %zu\nentries of sizes 2 to 16:", verdicts[1], verdicts[0]);
     for (size_t size = 2; size <= 16; size++)
         printf(" %zu", entries[size]);
     printf("\nentries of more than two events with size 0: %zu\n", larger_with_0);
-    printf("entries in recordings with inner acquires: %zu\n", entries_with_inner);
+    printf("entries in recordings with inner acquires: %zu, with starts: %zu, with joins: %zu\n",
+           entries_with_inner, entries_with_starts, entries_with_joins);
+    printf("patterns that starts and joins part: %zu\n", parted);
     missing += larger_with_0 == 0;
     missing += entries_with_inner == 0;
+    missing += entries_with_starts == 0;
+    missing += entries_with_joins == 0;
+    missing += parted == 0;
     if (missing > 0)
         printf("fuzz: %zu answers never came\n", missing);
     return missing == 0 ? 0 : 1;

@@ -1,5 +1,5 @@
 //! generate [--NAME VALUE ...]: writes a random recording to standard output. The names are those of the
-//! options in `gen`: seed, style, tasks, locks, vars, events, depth, invert, again, access and stick.
+//! options in `gen`: seed, style, tasks, locks, vars, events, depth, invert, again, access, stick and waves.
 
 use oracle::gen::{generate, Options};
 use std::io::Write;
@@ -21,6 +21,7 @@ fn main() {
             "--again" => options.again = value.parse().unwrap(),
             "--access" => options.access = value.parse().unwrap(),
             "--stick" => options.stick = value.parse().unwrap(),
+            "--waves" => options.waves = value.parse::<usize>().unwrap().max(1),
             name => panic!("unknown option {name}"),
         }
     }
