@@ -1,16 +1,17 @@
 -- Laws of starts and joins that hold of any trace. What well-formedness adds is in TaskOrder. Assumes
 -- nothing.
-use Prim.Native.Nat.{ℕ, _≤_, _<_}
+use Prim.Native.Nat.{ℕ, _+_, _-_, _≤_, _<_}
 use mathlib.Core.Path.{_≡_}
 use mathlib.Core.Logic.{_⊎_, inl, inr, ⊎-elim, _↔_}
-use mathlib.Core.Bool.{false, not, _&&_, and-false}
+use mathlib.Core.Bool.{false, not, _&&_, _||_, and-false}
 use native.Mathlib.Omega.{arith}
 use lib.ListN.{length}
-use lib.Dec.{T, T-not, eqb, eqb→eq}
-use Rattle.model.specs.Trace.{Trace, locks, at, task, object, hasAcquireOp, hasReleaseOp, namesLock}
+use lib.Dec.{T, T-not, eqb, eqb→eq, ltb}
+use borrow.Author.Tests.{le-ltb}
+use Rattle.model.specs.Trace.{Trace, locks, acquireOp, releaseOp, at, task, object, hasAcquireOp, hasReleaseOp, namesLock}
 use Rattle.model.specs.Trace.{enters, leaves, isAcquire, isRelease, isInner}
 use Rattle.model.specs.Tasks.{isStart, isJoin, target, starts, joins, belongs}
-use Rattle.laws.proofs.Tests.{parts, is-true, and-l, and-r, and-i, or-l, or-r, or-elim, eq→eqb, at-most?}
+use Rattle.laws.proofs.Tests.{parts, is-true, is-false, and-l, and-r, and-i, or-l, or-r, or-elim, eq→eqb, at-most?}
 use Rattle.laws.proofs.Trace.{acquireOp-event, releaseOp-event, namesLock-iff, acquire-object}
 
 module _ (σ : Trace) where
@@ -30,6 +31,14 @@ module _ (σ : Trace) where
   start-object e h =
       ⊎-elim (λ k. k)
       (λ l. absurd (T-not (namesLock σ e) (and-r (hasAcquireOp σ e) _ h) (namesLock-iff σ e .1 l)))
+      (at-most? locks (object σ e))
+
+  -- Nor is that of a join.
+  pub join-object : (e : ℕ) → T (isJoin σ e) → locks ≤ object σ e
+  unfolding isJoin
+  join-object e h =
+      ⊎-elim (λ k. k)
+      (λ l. absurd (T-not (namesLock σ e) (and-r (hasReleaseOp σ e) _ h) (namesLock-iff σ e .1 l)))
       (at-most? locks (object σ e))
 
   -- An acquire is no start.
@@ -52,6 +61,14 @@ module _ (σ : Trace) where
       (λ u. search parts) (λ u. search parts) t in
       rw (is-true (namesLock σ e) l, and-false)
 
+  -- Neither enters a lock or leaves one.
+  pub task-unlocked : (e : ℕ) → T (isStart σ e || isJoin σ e) → (enters σ e ≡ false) × (leaves σ e ≡ false)
+  unfolding isStart isJoin enters leaves
+  task-unlocked e t =
+      let beyond : T (not (namesLock σ e)) = or-elim (isStart σ e) (isJoin σ e)
+      (λ u. and-r (hasAcquireOp σ e) _ u) (λ u. and-r (hasReleaseOp σ e) _ u) t in
+      rw (is-false (namesLock σ e) beyond) (and-false (hasAcquireOp σ e), and-false (hasReleaseOp σ e))
+
   -- A start of task t.
   pub starts-iff : (t e : ℕ) → T (starts σ t e) ↔ (T (isStart σ e) × (t ≡ target σ e))
   unfolding starts
@@ -66,6 +83,36 @@ module _ (σ : Trace) where
   joins-iff t e = (
     λ h. (and-l (isJoin σ e) _ h, eqb→eq t (target σ e) (and-r (isJoin σ e) _ h)),
     λ r. and-i (isJoin σ e) _ (r .0) (eq→eqb t (target σ e) (r .1)),
+  )
+
+  -- By its record: an acquire's, with the object that stands for the task.
+  pub starts-record : (t e : ℕ) → T (starts σ t e) ↔ ((at σ e .op ≡ acquireOp) × (object σ e ≡ locks + t))
+  unfolding isStart hasAcquireOp namesLock target
+  starts-record t e = (
+    λ h.
+        let (start, q) = starts-iff t e .0 h in
+        let l = start-object e start in
+        (eqb→eq (at σ e .op) acquireOp (and-l (eqb (at σ e .op) acquireOp) _ start), omega arith),
+    λ (a, q). starts-iff t e .1 (
+      and-i (eqb (at σ e .op) acquireOp) _ (eq→eqb (at σ e .op) acquireOp a)
+          (rw (le-ltb (object σ e) locks (omega arith)) tt),
+      omega arith,
+    ),
+  )
+
+  -- Or a release's.
+  pub joins-record : (t e : ℕ) → T (joins σ t e) ↔ ((at σ e .op ≡ releaseOp) × (object σ e ≡ locks + t))
+  unfolding isJoin hasReleaseOp namesLock target
+  joins-record t e = (
+    λ h.
+        let (join, q) = joins-iff t e .0 h in
+        let l = join-object e join in
+        (eqb→eq (at σ e .op) releaseOp (and-l (eqb (at σ e .op) releaseOp) _ join), omega arith),
+    λ (a, q). joins-iff t e .1 (
+      and-i (eqb (at σ e .op) releaseOp) _ (eq→eqb (at σ e .op) releaseOp a)
+          (rw (le-ltb (object σ e) locks (omega arith)) tt),
+      omega arith,
+    ),
   )
 
   -- An event of task t, or its start.

@@ -11,8 +11,9 @@ use Rattle.model.specs.Trace.{Trace, tasks, locks, syncObjects, acquireOp, rele
 use Rattle.model.specs.Trace.{sameTask, depth}
 use Rattle.model.specs.Tasks.{isStart, isJoin, target, starts, joins, belongs}
 use Rattle.model.specs.Recording.{trace}
-use Rattle.model.specs.Relations.{predecessor, matching, held}
+use Rattle.model.specs.Relations.{predecessor, matching}
 use Rattle.model.specs.WellFormed.{fault}
+use Rattle.model.specs.EventSet.{EventSet, has}
 use Rattle.model.specs.Closed.{Closed}
 use Rattle.model.specs.Pattern.{isPattern}
 use Rattle.model.specs.Schedule.{syncPreserving, enabled}
@@ -23,8 +24,8 @@ abbrev pub Known : Trace → ℕ → ℕ → Type 0
 Known σ t e = (f : ℕ) × (1 ≤ f) × (f < e) × (T (starts σ t f) ⊎ T (joins σ t f) ⊎ (task σ f ≡ t))
 
 -- Event e joins its own task, or that was joined before it.
-abbrev pub Ended : Trace → ℕ → Type 0
-Ended σ e = T (joins σ (task σ e) e) ⊎ ((f : ℕ) × (1 ≤ f) × (f < e) × T (joins σ (task σ e) f))
+abbrev pub Over : Trace → ℕ → Type 0
+Over σ e = T (joins σ (task σ e) e) ⊎ ((f : ℕ) × (1 ≤ f) × (f < e) × T (joins σ (task σ e) f))
 
 -- The request's clauses for a trace.
 pub record Forking (σ : Trace) : Type 0 where
@@ -49,13 +50,13 @@ pub record Forking (σ : Trace) : Type 0 where
       → ((f : ℕ) → 1 ≤ f → f < e → T (sameTask σ e f) → ⊥) → predecessor σ e ≡ s
   -- and that event is next only once the start is listed.
   pub next-started : (ρ : List ℕ) (e s : ℕ) → T (enabled σ ρ e) → T (starts σ (task σ e) s) → List·Memᴰ s ρ
-  -- A joined task's last event, or its start if it has no event, belongs to any closed set holding the join,
-  -- and so do all of them.
-  pub closed-joined : (u : ℕ → Type 0) → Closed σ u → (j e : ℕ) → u j → T (isJoin σ j)
-      → 1 ≤ e → e ≤ length σ → T (belongs σ (target σ j) e) → u e
+  -- A joined task's last event, or its start if it has no event, belongs to any closed set, so to any closure,
+  -- holding the join; and so do all of them.
+  pub closed-joined : (c : EventSet) → Closed σ (λ e. T (has c e)) → (j e : ℕ) → T (has c j) → T (isJoin σ j)
+      → 1 ≤ e → e ≤ length σ → T (belongs σ (target σ j) e) → T (has c e)
 
 -- Request 1.
-pub record Request1 : Type 1 where
+pub record Request1 : Type 0 where
   -- An acquire record with object 64 to 79 is a start of task object - 64, and a release record with such an
   -- object a join of that task.
   pub start-record : (σ : Trace) (t e : ℕ)
@@ -70,7 +71,7 @@ pub record Request1 : Type 1 where
   pub question-15 : (σ : Trace) (e : ℕ) → (fault σ e ≡ 15)
       ↔ ((t : ℕ) × (t < tasks) × T (starts σ t e) × ((t ≡ task σ e) ⊎ Known σ t e))
   -- and 16 a join of the own task or an event of a task already joined; such an event is never accepted.
-  pub question-16 : (σ : Trace) (e : ℕ) → fault σ e ≡ 16 → Ended σ e
-  pub refused-16 : (σ : Trace) (e : ℕ) → Ended σ e → fault σ e ≢ 0
+  pub question-16 : (σ : Trace) (e : ℕ) → fault σ e ≡ 16 → Over σ e
+  pub refused-16 : (σ : Trace) (e : ℕ) → Over σ e → fault σ e ≢ 0
   -- The clauses hold of every recording that the check accepts.
   pub forking : (b : List ℕ) → check b .refusal ≡ 0 → Forking (trace b)
