@@ -309,8 +309,8 @@ fn judge(records: &[u8], pattern: &[u8], front: &mut [u16]) -> u64
     )
 }
 
-// The verdict of a lent pattern: the recording's questions, question 10, then whether the closure of its predecessors
-// has none of its events.
+// The verdict of a lent pattern: the recording's questions, question 10, then whether the closure of its
+// predecessors has none of its events.
 pub fn verdict(recording: &[u8], pattern: &[u8]) -> model::Verdict
     ensures { λ r. ⌜ r ≡ verdict (now (recording .entry)) (now (pattern .entry)) ⌝ }
 {

@@ -1,6 +1,6 @@
 -- What visiting an event leaves, by its operation and the latest acquire of its lock. Assumes nothing.
 use Prim.Native.Nat.{ℕ, _*_, _≤_, min}
-use mathlib.Core.Path.{_≡_, refl, sym, _∙_}
+use mathlib.Core.Path.{_≡_, refl, _∙_}
 use mathlib.Core.Bool.{true, false}
 use mathlib.Core.Logic.{_≢_}
 use mathlib.Core.List.{List}

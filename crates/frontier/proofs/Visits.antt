@@ -13,7 +13,7 @@ use Rattle.model.specs.Relations.{predecessor, matching}
 use Rattle.model.specs.Closed.{Direct, Again}
 use Rattle.laws.specs.Walked.{previous, awaited}
 use Rattle.laws.specs.Frontier.{Frontier, Behind, Visited, Advancing, Entails, raised, wanted}
-use Rattle.laws.proofs.Tests.{or-l, decided, equal?, at-most?}
+use Rattle.laws.proofs.Tests.{decided, equal?, at-most?}
 use Rattle.laws.proofs.Trace.{sameObject-iff}
 use Rattle.laws.proofs.Relations.{matching-below}
 use Rattle.laws.proofs.Awaited.{awaited-acquire, awaited-direct, awaited-below}

@@ -108,8 +108,8 @@ fn visit(
     visit_acquire(records, matches, want, latest, f);
 }
 
-// Where the walk of task t ends, whose frontier was at event `old`: there, or for a task without events in the
-// set at its start, which is then wanted.
+// Where the walk of task t ends, whose frontier was at event `old`: there, or for a task without events in
+// the set at its start, which is then wanted.
 fn begin(records: &[u8], predecessors: &[u16], want: &mut [u16], t: usize, old: u16) -> u16
     requires { ⌜ (t < tasks) × (length (now predecessors) ≡ orderLength) × (length (now want) ≡ tasks)
         × Starts (decodeAll (now records)) (suc (length (decodeAll (now records)))) (now predecessors) ⌝ }

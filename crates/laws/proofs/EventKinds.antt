@@ -7,7 +7,7 @@ use native.Mathlib.Omega.{arith}
 use lib.Dec.{T, eqb}
 use borrow.Author.Tests.{ne-eqb, lt-ltb}
 use Rattle.model.specs.Trace.{Trace, locks, at, object, isRead, hasAcquireOp, hasReleaseOp}
-use Rattle.model.specs.Trace.{namesLock, enters, leaves, ownDepth, isAcquire, isRelease, isInner}
+use Rattle.model.specs.Trace.{enters, leaves, ownDepth, isAcquire, isRelease, isInner}
 use Rattle.laws.specs.EventKinds.{uncountedKind, isUncounted, kind}
 use Rattle.laws.proofs.Tests.{parts, decided, equal?, is-true, and-i, or-l, or-r, or-elim}
 use Rattle.laws.proofs.Operations.{isAcquire-op, isRelease-op, isAcquire-none, isRelease-none}

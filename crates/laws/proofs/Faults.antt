@@ -7,10 +7,9 @@ use native.Mathlib.Omega.{arith}
 use lib.ListN.{length}
 use lib.Dec.{T, T-not, eqb, ltb, ltb→lt, lt→ltb}
 use borrow.Author.Tests.{eq-eqb, ne-eqb, lt-ltb, le-ltb}
-use Rattle.model.specs.Trace.{Trace, locks, syncObjects, at, task, object, isRead, isWrite}
-use Rattle.model.specs.Trace.{hasAcquireOp, hasReleaseOp, namesLock, enters, leaves}
-use Rattle.model.specs.Trace.{ownDepth, isAcquire, isRelease}
-use Rattle.model.specs.Tasks.{target, isStart, isJoin}
+use Rattle.model.specs.Trace.{Trace, locks, syncObjects, at, task, object, isRead}
+use Rattle.model.specs.Trace.{hasAcquireOp, hasReleaseOp, enters, leaves}
+use Rattle.model.specs.Tasks.{target, isStart}
 use Rattle.model.specs.Relations.{holds, writer}
 use Rattle.model.specs.WellFormed.{isFree, isNew, isOver, joinsOwn, fault, firstFault}
 use Rattle.model.specs.Calls.Questions.{outcome}
@@ -31,7 +30,8 @@ module _ (σ : Trace) (e : ℕ) {op : ℕ} (q : op ≡ at σ e .op) where
       (cond ((eqb op 3 && ltb (object σ e) locks) && not (holds σ e (task σ e) (object σ e))) 6
       (cond (eqb op 0 && eqb (writer σ e) 0) 7
       (cond ((eqb op 2 && not (ltb (object σ e) locks)) && not (isNew σ e)) 15
-      (cond ((eqb op 3 && not (ltb (object σ e) locks)) && eqb (target σ e) (task σ e) || isOver σ e) 16 0)))))
+      (cond ((eqb op 3 && not (ltb (object σ e) locks)) && eqb (target σ e) (task σ e) || isOver σ e) 16
+      0)))))
   unfolding fault joinsOwn
   fault-op =
       rw (

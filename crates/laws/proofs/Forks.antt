@@ -3,8 +3,7 @@
 use Prim.Native.Nat.{ℕ, _≤_, _<_}
 use mathlib.Core.Path.{_≡_, sym}
 use mathlib.Core.Logic.{_⊎_, inl, inr, ⊎-elim, _↔_, _≢_}
-use mathlib.Core.Bool.{false, not, _&&_, and-false, true≢false}
-use native.Mathlib.Omega.{arith}
+use mathlib.Core.Bool.{false, and-false, true≢false}
 use lib.Dec.{T, T-not, not-T, eqb, eqb→eq}
 use borrow.Author.Tests.{eq-eqb, ne-eqb}
 use Rattle.model.specs.Trace.{Trace, task}

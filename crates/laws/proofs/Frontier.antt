@@ -8,7 +8,7 @@ use native.Mathlib.Omega.{arith}
 use lib.Dec.{T, ltb}
 use lib.ListN.{length, getD, length-set}
 use lib.Seq.{getD-set-same, getD-set-other}
-use borrow.Author.Tests.{ltb-true, ltb-false, le-ltb}
+use borrow.Author.Tests.{ltb-true, ltb-false}
 use Rattle.model.specs.Trace.{Trace, tasks, task}
 use Rattle.model.specs.Closed.{Closed}
 use Rattle.laws.specs.Walked.{previous}

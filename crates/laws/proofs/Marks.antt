@@ -50,7 +50,8 @@ module _ (σ : Trace) where
   unfolding marked
   marked-match e h =
       decided (isUncounted σ e)
-      (λ y. rw (y, eq-eqb e e refl) (sym (matching-none σ e (uncounted-acquire σ e y) (uncounted-release σ e y))))
+      (λ y. rw (y, eq-eqb e e refl)
+      (sym (matching-none σ e (uncounted-acquire σ e y) (uncounted-release σ e y))))
       (λ n. rw (n, ne-eqb (matching σ e) e (matching-apart σ e h)))
 
   -- What the table has lies in the trace.

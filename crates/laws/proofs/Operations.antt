@@ -1,12 +1,12 @@
 -- The tests for an event, by its operation and by whether the object is a lock. Assumes nothing.
 use Prim.Native.Nat.{ℕ, _-_, _≤_, _<_}
-use mathlib.Core.Path.{_≡_, _∙_}
+use mathlib.Core.Path.{_≡_}
 use mathlib.Core.Logic.{_≢_}
 use mathlib.Core.Bool.{true, false, not, _&&_, and-false}
 use native.Mathlib.Omega.{arith}
 use lib.Dec.{T, eqb, ltb}
 use borrow.Author.Tests.{eq-eqb, ne-eqb, lt-ltb, le-ltb}
-use Rattle.model.specs.Trace.{Trace, locks, at, task, object, isRead, isWrite, hasAcquireOp, hasReleaseOp}
+use Rattle.model.specs.Trace.{Trace, locks, at, object, isRead, isWrite, hasAcquireOp, hasReleaseOp}
 use Rattle.model.specs.Trace.{namesLock, enters, leaves, ownDepth, isAcquire, isRelease}
 use Rattle.model.specs.Tasks.{isStart, isJoin}
 

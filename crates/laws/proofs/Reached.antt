@@ -1,7 +1,7 @@
 -- A frontier at rest, with nothing more to reach, is that of the smallest closed set: what a closed set has
 -- of it, that it is closed, and that it is the closure of the set that it began with. Assumes nothing.
 use Prim.Native.Nat.{ℕ, _≤_, _<_}
-use mathlib.Core.Path.{_≡_, refl, sym, _∙_}
+use mathlib.Core.Path.{_≡_, sym, _∙_}
 use mathlib.Core.Logic.{_≢_}
 use mathlib.Core.Bool.{Bool}
 use mathlib.Core.List.{List}
@@ -10,9 +10,9 @@ use lib.Dec.{T, leb, leb→le, le→leb}
 use lib.ListN.{length, getD}
 use lib.Seq.{ext-getD}
 use Rattle.model.specs.Trace.{Trace, tasks, task, object}
-use Rattle.model.specs.Relations.{predecessor, writer, joined, matching}
+use Rattle.model.specs.Relations.{matching}
 use Rattle.model.specs.EventSet.{EventSet, has}
-use Rattle.model.specs.Closed.{Direct, predecessor-is, writer-is, joined-is, Again, Closed}
+use Rattle.model.specs.Closed.{Direct, Again, Closed}
 use Rattle.model.specs.Closure.{closure}
 use Rattle.laws.specs.Frontier.{Frontier, Behind, Visited, Advancing, Settled, Entails, raised}
 use Rattle.laws.specs.Frontier.{Advanced}

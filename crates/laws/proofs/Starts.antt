@@ -1,19 +1,18 @@
--- How one event changes the table of predecessors, with the tasks' starts behind the events; what it holds is in
--- specs/Walked. Assumes nothing.
+-- How one event changes the table of predecessors, with the tasks' starts behind the events; what it holds is
+-- in specs/Walked. Assumes nothing.
 use Prim.Native.Nat.{ℕ, suc, _+_, _-_, _≤_, _<_}
-use mathlib.Core.Path.{_≡_, refl, sym, _∙_}
+use mathlib.Core.Path.{_≡_, refl, _∙_}
 use mathlib.Core.Logic.{⊎-elim, _≢_}
-use mathlib.Core.Bool.{Bool, true, false, cond, _&&_}
+use mathlib.Core.Bool.{Bool, true, false, cond}
 use mathlib.Core.List.{List}
 use native.Mathlib.Omega.{arith}
 use lib.Dec.{T, eqb}
 use lib.ListN.{length, getD, set}
 use lib.Seq.{getD-set-same, getD-set-other}
 use borrow.Author.Tests.{eq-eqb, ne-eqb}
-use Rattle.model.specs.Lists.{lastBefore}
 use Rattle.model.specs.Trace.{Trace, tasks, task}
 use Rattle.model.specs.Tasks.{isStart, target, starts}
-use Rattle.model.specs.Relations.{startOf, latestOf, lastOf}
+use Rattle.model.specs.Relations.{startOf, lastOf}
 use Rattle.laws.specs.Sizes.{tableLength, orderLength}
 use Rattle.laws.specs.Walked.{LatestEvents, Filled, Starts}
 use Rattle.laws.proofs.Tests.{equal?, is-true}

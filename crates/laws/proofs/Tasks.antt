@@ -6,12 +6,14 @@ use mathlib.Core.Logic.{_⊎_, inl, inr, ⊎-elim, _↔_}
 use mathlib.Core.Bool.{false, not, _&&_, _||_, and-false}
 use native.Mathlib.Omega.{arith}
 use lib.ListN.{length}
-use lib.Dec.{T, T-not, eqb, eqb→eq, ltb}
+use lib.Dec.{T, T-not, eqb, eqb→eq}
 use borrow.Author.Tests.{le-ltb}
-use Rattle.model.specs.Trace.{Trace, locks, acquireOp, releaseOp, at, task, object, hasAcquireOp, hasReleaseOp, namesLock}
+use Rattle.model.specs.Trace.{Trace, locks, acquireOp, releaseOp, at, task, object, hasAcquireOp}
+use Rattle.model.specs.Trace.{hasReleaseOp, namesLock}
 use Rattle.model.specs.Trace.{enters, leaves, isAcquire, isRelease, isInner}
 use Rattle.model.specs.Tasks.{isStart, isJoin, target, starts, joins, belongs}
-use Rattle.laws.proofs.Tests.{parts, is-true, is-false, and-l, and-r, and-i, or-l, or-r, or-elim, eq→eqb, at-most?}
+use Rattle.laws.proofs.Tests.{parts, is-true, is-false, and-l, and-r, and-i, or-l, or-r, or-elim}
+use Rattle.laws.proofs.Tests.{eq→eqb, at-most?}
 use Rattle.laws.proofs.Trace.{acquireOp-event, releaseOp-event, namesLock-iff, acquire-object}
 
 module _ (σ : Trace) where
@@ -57,7 +59,8 @@ module _ (σ : Trace) where
   pub inner-join : (e : ℕ) → T (isInner σ e) → isJoin σ e ≡ false
   unfolding isInner enters leaves isJoin
   inner-join e t =
-      let l : T (namesLock σ e) = or-elim (enters σ e && not (isAcquire σ e)) (leaves σ e && not (isRelease σ e))
+      let l : T (namesLock σ e) =
+      or-elim (enters σ e && not (isAcquire σ e)) (leaves σ e && not (isRelease σ e))
       (λ u. search parts) (λ u. search parts) t in
       rw (is-true (namesLock σ e) l, and-false)
 

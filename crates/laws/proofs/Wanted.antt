@@ -1,5 +1,5 @@
--- One event more among the wanted ones: it is reached, no event gets earlier, and closed sets have all of them
--- that have it. Assumes nothing.
+-- One event more among the wanted ones: it is reached, no event gets earlier, and closed sets have all of
+-- them that have it. Assumes nothing.
 use Prim.Native.Nat.{ℕ, _-_, _≤_, _<_}
 use mathlib.Core.Path.{_≡_, refl}
 use mathlib.Core.Logic.{_⊎_, inl, inr, ⊎-elim, _≢_}

@@ -23,8 +23,8 @@ previous σ e = latestOf σ e (task σ e)
 abbrev pub startIn : Trace → ℕ → ℕ
 startIn σ t = startOf σ (suc (length σ)) t
 
--- What an event awaits besides its predecessor: a read its writer, a join what it waits for, and another event
--- nothing, 0. One table has both, since no read is a join.
+-- What an event awaits besides its predecessor: a read its writer, a join what it waits for, and another
+-- event nothing, 0. One table has both, since no read is a join.
 unfoldable pub awaited : Trace → ℕ → ℕ
 awaited σ e = cond (isRead σ e) (writer σ e) (joined σ e)
 

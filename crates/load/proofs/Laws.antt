@@ -3,18 +3,16 @@
 use Prim.Native.Nat.{ℕ, _+_, _-_, _*_, _/_, _%_, _≤_, _<_}
 use mathlib.Core.Path.{_≡_, sym, _∙_}
 use mathlib.Core.Logic.{_≢_}
-use mathlib.Core.Bool.{Bool, cond}
-use mathlib.Core.List.{_∷_, []}
+use mathlib.Core.Bool.{cond}
 use native.Mathlib.Numerals.{add-one}
 use native.Mathlib.Omega.{arith}
 use lib.Dec.{ltb}
-use lib.ListN.{length, length-append}
+use lib.ListN.{length}
 use borrow.Author.Tests.{eq-eqb, ne-eqb, lt-ltb, le-ltb}
 use Rattle.model.specs.Lists.{filter, from}
 use Rattle.model.specs.Trace.{Trace, locks, at, object}
 use Rattle.model.specs.Calls.Load.{isHeldAfter, percent}
 use Rattle.laws.specs.Walked.{LockDepth}
-use Rattle.laws.proofs.Tests.{decided}
 use Rattle.laws.proofs.Filters.{filter-counts}
 use Rattle.laws.proofs.Operations.{enters-is, leaves-is, accesses-is}
 use Rattle.laws.proofs.WellFormed.{WellFormed}

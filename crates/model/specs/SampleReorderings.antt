@@ -8,8 +8,7 @@ use mathlib.Core.List.{List, [], _∷_, _++_}
 use Rattle.model.specs.Recording.{trace}
 use Rattle.model.specs.Schedule.{syncPreserving, enabled}
 use Rattle.model.specs.Opened.{opened}
-use Rattle.model.specs.Rows.{blank}
-use Rattle.model.specs.Recordings.{recording, by, acq, rel, wr, rd, start, join}
+use Rattle.model.specs.Recordings.{recording, by, wr, start, join}
 use Rattle.model.specs.SampleSchedules.{valid}
 use Rattle.model.specs.SampleTasks.{startedFirst, idle}
 

@@ -1,13 +1,12 @@
 -- What noting one event does to the tables of predecessors, of what events await and of starts, with its
 -- operation, task and object as they were unpacked. Assumes nothing.
-use Prim.Native.Nat.{ℕ, suc, _+_, _-_, _≤_, _<_}
+use Prim.Native.Nat.{ℕ, _+_, _-_, _≤_, _<_}
 use mathlib.Core.Path.{_≡_, sym, _∙_}
 use mathlib.Core.Logic.{⊎-elim, _≢_}
-use mathlib.Core.Bool.{true, cond}
+use mathlib.Core.Bool.{true}
 use mathlib.Core.List.{List}
 use native.Mathlib.Numerals.{add-one}
 use native.Mathlib.Omega.{arith}
-use lib.Dec.{T, eqb}
 use lib.ListN.{length, getD, set}
 use lib.Seq.{getD-set-same, getD-set-other}
 use borrow.Author.Tests.{eq-eqb, ne-eqb}
@@ -20,7 +19,8 @@ use Rattle.laws.proofs.Tests.{equal?}
 use Rattle.laws.proofs.Relations.{joined-none, joined-last}
 use Rattle.laws.proofs.LatestEvents.{latest-set, latest-keep, latest-writer, filled-set}
 use Rattle.laws.proofs.Starts.{starts-set, starts-keep, starts-noted, starts-last, filled-behind}
-use Rattle.laws.proofs.Operations.{isRead-op, isWrite-op, isStart-none, isJoin-none, isStart-lock, isJoin-lock}
+use Rattle.laws.proofs.Operations.{isRead-op, isWrite-op, isStart-none, isJoin-none, isStart-lock}
+use Rattle.laws.proofs.Operations.{isJoin-lock}
 use Rattle.laws.proofs.Operations.{starts-is, joins-is}
 use Rattle.laws.proofs.Awaited.{awaited-read, awaited-other}
 use Rattle.laws.proofs.WellFormed.{WellFormed, sync-object}

@@ -1,5 +1,5 @@
-// What one event does to the order of events: its predecessor, what it awaits, and the tasks' starts. The table
-// of predecessors has behind the events an entry for each task, with its start.
+// What one event does to the order of events: its predecessor, what it awaits, and the tasks' starts. The
+// table of predecessors has behind the events an entry for each task, with its start.
 ghost use Prim.Native.Nat.{ℕ, _+_, _*_, _<_, _≤_};
 ghost use mathlib.Core.Path.{_≡_};
 ghost use mathlib.Core.Bool.{true};
@@ -99,7 +99,8 @@ fn note_task(records: &[u8], e: usize, predecessors: &mut [u16], latest: &mut [u
         × Filled (predecessor (decodeAll (now records))) e (now predecessors)
         × Starts (decodeAll (now records)) e (now predecessors)
         × LatestEvents (λ f. true) (task (decodeAll (now records))) e (now latest) ⌝ }
-    ensures { λ r. ⌜ Filled (predecessor (decodeAll (now (records .entry)))) (e + 1) (now (predecessors .exit))
+    ensures { λ r. ⌜ Filled (predecessor (decodeAll (now (records .entry)))) (e + 1)
+        (now (predecessors .exit))
         × Starts (decodeAll (now (records .entry))) e (now (predecessors .exit))
         × LatestEvents (λ f. true) (task (decodeAll (now (records .entry)))) (e + 1) (now (latest .exit)) ⌝ }
 {
@@ -114,7 +115,8 @@ fn note_start(records: &[u8], e: usize, predecessors: &mut [u16])
         × (checkEvents (decodeAll (now records)) .refusal ≡ 0) × (length (now predecessors) ≡ orderLength)
         × Filled (predecessor (decodeAll (now records))) (e + 1) (now predecessors)
         × Starts (decodeAll (now records)) e (now predecessors) ⌝ }
-    ensures { λ r. ⌜ Filled (predecessor (decodeAll (now (records .entry)))) (e + 1) (now (predecessors .exit))
+    ensures { λ r. ⌜ Filled (predecessor (decodeAll (now (records .entry)))) (e + 1)
+        (now (predecessors .exit))
         × Starts (decodeAll (now (records .entry))) (e + 1) (now (predecessors .exit)) ⌝ }
 {
     if recording::operation(records, e) != 2 {
@@ -146,7 +148,8 @@ pub fn note_order(
         × Filled (awaited (decodeAll (now records))) e (now writers)
         × LatestEvents (isWrite (decodeAll (now records))) (object (decodeAll (now records))) e
         (now writes) ⌝ }
-    ensures { λ r. ⌜ Filled (predecessor (decodeAll (now (records .entry)))) (e + 1) (now (predecessors .exit))
+    ensures { λ r. ⌜ Filled (predecessor (decodeAll (now (records .entry)))) (e + 1)
+        (now (predecessors .exit))
         × Starts (decodeAll (now (records .entry))) (e + 1) (now (predecessors .exit))
         × LatestEvents (λ f. true) (task (decodeAll (now (records .entry)))) (e + 1) (now (latest .exit))
         × Filled (awaited (decodeAll (now (records .entry)))) (e + 1) (now (writers .exit))

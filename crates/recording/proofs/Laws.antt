@@ -1,32 +1,28 @@
 -- What one event is refused with and what it does to the tables of the check, by its operation and object.
 -- Assumes nothing.
-use Prim.Native.Nat.{ℕ, suc, _+_, _-_, _/_, _≤_, _<_}
+use Prim.Native.Nat.{ℕ, suc, _+_, _-_, _≤_, _<_}
 use mathlib.Core.Path.{_≡_, sym, _∙_}
-use mathlib.Core.Logic.{⊎-elim, _≢_}
-use mathlib.Core.Bool.{true, false, cond}
+use mathlib.Core.Logic.{_≢_}
+use mathlib.Core.Bool.{false, cond}
 use mathlib.Core.List.{List}
 use native.Mathlib.Numerals.{add-one}
 use native.Mathlib.Omega.{arith}
 use lib.Dec.{T, eqb}
-use lib.ListN.{length, getD, set, replicate, length-set, length-replicate}
+use lib.ListN.{length, getD, set, length-set}
 use borrow.Author.Tests.{eq-eqb, ne-eqb}
-use Rattle.model.specs.Trace.{Trace, tasks, locks, variables, at, task, object, isWrite, enters, leaves}
+use Rattle.model.specs.Trace.{Trace, tasks, locks, variables, at, task, object, isWrite}
 use Rattle.model.specs.Tasks.{isStart, isJoin, target}
 use Rattle.model.specs.Relations.{holds, writer}
-use Rattle.model.specs.Recording.{decodeAll}
 use Rattle.model.specs.WellFormed.{isFree, isNew, isOver, fault}
-use Rattle.model.specs.Calls.Questions.{outcome}
-use Rattle.model.specs.Calls.Check.{checkEvents}
 use Rattle.laws.specs.Walked.{Holders, LatestEvents}
-use Rattle.laws.proofs.Tests.{decided, equal?}
-use Rattle.laws.proofs.Trace.{decodeAll-length}
-use Rattle.laws.proofs.LatestEvents.{latest-start, latest-set, latest-keep, latest-writer, latest-over}
-use Rattle.laws.proofs.Kept.{holders-start, holders-access}
+use Rattle.laws.proofs.Tests.{decided}
+use Rattle.laws.proofs.LatestEvents.{latest-set, latest-keep, latest-writer}
+use Rattle.laws.proofs.Kept.{holders-access}
 use Rattle.laws.proofs.Operations.{isRead-op, isWrite-op, isStart-none, isJoin-none, accesses-is}
 use Rattle.laws.proofs.Operations.{isStart-lock, isJoin-lock, tasks-is}
 use Rattle.laws.proofs.Faults.{fault-object, fault-acquire, fault-release, fault-start, fault-join}
-use Rattle.laws.proofs.Faults.{fault-write, fault-read, checkEvents-fault, checkEvents-none}
-use Rattle.recording.specs.Asked.{Done, Asked}
+use Rattle.laws.proofs.Faults.{fault-write, fault-read}
+use Rattle.recording.specs.Asked.{Done}
 
 -- What event e is refused with, unless its task is over, and the tables that it leaves.
 abbrev Answer : Trace → ℕ → ℕ → List ℕ → List ℕ → List ℕ → List ℕ → List ℕ → Type 0

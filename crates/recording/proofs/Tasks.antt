@@ -1,5 +1,5 @@
--- How the check goes on after one start or join, by the start, the latest join and the latest event of the task
--- that it names. Assumes nothing.
+-- How the check goes on after one start or join, by the start, the latest join and the latest event of the
+-- task that it names. Assumes nothing.
 use Prim.Native.Nat.{ℕ, _+_, _<_}
 use mathlib.Core.Path.{_≡_, sym, _∙_}
 use mathlib.Core.Logic.{_≢_}
@@ -30,7 +30,8 @@ abbrev Started : Trace → ℕ → ℕ → List ℕ → Type 0
 Started σ e r starts =
     (r ≡ cond (isNew σ e) 0 15) × (r ≡ 0 → LatestEvents (isStart σ) (target σ) (e + 1) starts)
 
-module _ {σ : Trace} {e t u : ℕ} {latest starts joins : List ℕ} (s : Starting σ e t u latest starts joins) where
+module _ {σ : Trace} {e t u : ℕ} {latest starts joins : List ℕ}
+    (s : Starting σ e t u latest starts joins) where
   new-is : isNew σ e
       ≡ (not (eqb u t) && eqb (getD starts u 0) 0 && eqb (getD joins u 0) 0 && eqb (getD latest u 0) 0)
   new-is =

@@ -129,7 +129,8 @@ fn start(
 ) -> u64
     requires { ⌜ (e < tableLength) × T (isStart (decodeAll (now records)) e)
         × (t ≡ task (decodeAll (now records)) e) × (u < tasks) × (u ≡ target (decodeAll (now records)) e)
-        × (length (now latest) ≡ tasks) × LatestEvents (λ f. true) (task (decodeAll (now records))) e (now latest)
+        × (length (now latest) ≡ tasks)
+        × LatestEvents (λ f. true) (task (decodeAll (now records))) e (now latest)
         × (length (now starts) ≡ tasks)
         × LatestEvents (isStart (decodeAll (now records))) (target (decodeAll (now records))) e (now starts)
         × (length (now joins) ≡ tasks)
@@ -173,8 +174,9 @@ fn join(records: &[u8], e: usize, t: u8, u: usize, joins: &mut [u16]) -> u64
     0
 }
 
-// Puts questions 4 to 7 and 15, and of 16 whether a task joins itself, to event e of task t, with what earlier
-// events have done: the number of the first "no", or 0, and then the tables have what this one does too.
+// Puts questions 4 to 7 and 15, and of 16 whether a task joins itself, to event e of task t, with what
+// earlier events have done: the number of the first "no", or 0, and then the tables have what this one does
+// too.
 fn ask_object(
     records: &[u8],
     e: usize,

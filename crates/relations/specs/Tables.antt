@@ -26,8 +26,8 @@ pub record Long (operations tasks objects holding predecessors writers matches :
   pub writer-long : length writers ≡ tableLength
   pub matching-long : length matches ≡ tableLength
 
--- Each table has its relation at the index of each event, that of writers also for joins, that of matches with
--- marks; behind the predecessors are the tasks' starts.
+-- Each table has its relation at the index of each event, that of writers also for joins, that of matches
+-- with marks; behind the predecessors are the tasks' starts.
 pub record Tables (σ : Trace) (operations tasks objects holding predecessors writers matches : List ℕ)
     : Type 0 where
   pub long : Long operations tasks objects holding predecessors writers matches

@@ -170,5 +170,5 @@ module _ {σ : Trace} {last : List ℕ} {e op m : ℕ} (k : Asked σ last e op m
       → Answers σ last acquires writes e r
   asked-other d n q is before z =
       let same = q ∙ awaited-other σ e (unread d) in
-      is ∙ rw same (other-follows σ before last acquires writes z e (k .inside) (k .sound) (k .next) (unread d)
-      (isAcquire-none σ e is-op n))
+      is ∙ rw same (other-follows σ before last acquires writes z e (k .inside) (k .sound) (k .next)
+      (unread d) (isAcquire-none σ e is-op n))

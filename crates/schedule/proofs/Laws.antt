@@ -9,12 +9,12 @@ use native.Mathlib.Omega.{arith}
 use lib.Dec.{T, not-T, eqb, eqb→eq, leb→le, le→leb}
 use lib.ListN.{length, getD}
 use borrow.Author.Tests.{eq-eqb, ne-eqb, le-leb, lt-leb}
-use Rattle.model.specs.Trace.{Trace, tasks, locks, variables, at, task, object, isRead, isAcquire, sameObject}
+use Rattle.model.specs.Trace.{Trace, locks, variables, at, task, object, isRead, isAcquire, sameObject}
 use Rattle.model.specs.Tasks.{isJoin}
 use Rattle.model.specs.Relations.{predecessor, joined, writer, matching}
 use Rattle.model.specs.Schedule.{latestWrite, mayFollow, enabled}
 use Rattle.laws.specs.EventKinds.{marked}
-use Rattle.laws.proofs.Tests.{parts, and-l, and-i, T-ext, is-true, is-false, eq→eqb, equal?, at-most?}
+use Rattle.laws.proofs.Tests.{parts, and-l, and-i, T-ext, is-false, eq→eqb, equal?, at-most?}
 use Rattle.laws.proofs.Lists.{member-iff}
 use Rattle.laws.proofs.Trace.{isEvent-iff, sameTask-iff, sameObject-iff}
 use Rattle.laws.specs.Walked.{previous}
@@ -89,12 +89,14 @@ module _ (σ : Trace) (ρ last : List ℕ) (u : UpTo σ ρ last) where
         let (low, same) = u .front .own (task σ e) (ok .task-lt e h k) d in
         (listed-iff own (omega arith) low .1 (rw same (omega arith)), same)
 
-    -- Where it is not the predecessor of an event that is not listed, but whose predecessor is, there is none.
+    -- Where it is not the predecessor of an event that is not listed, but whose predecessor is, there is
+    -- none.
     own-none : (List·Memᴰ e ρ → ⊥) → (predecessor σ e ≢ 0 → List·Memᴰ (predecessor σ e) ρ)
         → predecessor σ e ≢ own → own ≢ 0 → ⊥
     own-none fresh ready d some =
         let (m, same) = own-listed some in
-        let earlier : own < e = ⊎-elim (λ b. absurd (fresh (listed-iff e h k .1 b))) (λ b. b) (at-most? e own) in
+        let earlier : own < e =
+        ⊎-elim (λ b. absurd (fresh (listed-iff e h k .1 b))) (λ b. b) (at-most? e own) in
         let high = previous-latest σ e .latest own earlier (sameTask-iff σ e own .1 (sym same)) in
         let n : previous σ e ≢ 0 = omega arith in
         let p = predecessor-previous σ e n in

@@ -16,8 +16,8 @@ use Rattle.model.specs.Pattern.{isPattern}
 use Rattle.model.specs.Schedule.{latestWrite, witnesses}
 use Rattle.laws.specs.Frontier.{Frontier}
 
--- For each task the latest listed event, or 0: its listed events are those up to there, and its start is listed
--- with them.
+-- For each task the latest listed event, or 0: its listed events are those up to there, and its start is
+-- listed with them.
 pub record UpTo (σ : Trace) (ρ last : List ℕ) : Type 0 where
   pub front : Frontier σ last
   pub event : (e : ℕ) → List·Memᴰ e ρ → (1 ≤ e) × (e ≤ length σ)

@@ -17,8 +17,8 @@ isListed σ last e = cond (eqb e 0) false (leb e (getD last (task σ e) 0))
 unfoldable pub isReady : Trace → List ℕ → ℕ → Bool
 isReady σ last x = cond (eqb x 0) true (leb x (getD last (task σ x) 0))
 
--- The event is enabled (01: next): its predecessor is the latest listed event of its task, or where none of that
--- is listed, a listed event of another one, its start.
+-- The event is enabled (01: next): its predecessor is the latest listed event of its task, or where none of
+-- that is listed, a listed event of another one, its start.
 unfoldable pub isNext : Trace → List ℕ → ℕ → Bool
 isNext σ last e =
     let own = getD last (task σ e) 0 in

@@ -112,7 +112,8 @@ module _ {σ : Trace} {e op : ℕ} {depths : List ℕ} (u : Coming σ e op depth
           let z : Kept σ e (object σ e) (suc (task σ e)) (getD depths o 0) = rw own at z in
           let (depth, deep) = kept-own small z in (
             omega (arith, u .op-is),
-            rw (ne-eqb (getD depths o 0) 0 (omega arith)) at (kind-enter σ e is-op a lock (getD depths o 0) depth),
+            rw (ne-eqb (getD depths o 0) 0 (omega arith)) at
+                (kind-enter σ e is-op a lock (getD depths o 0) depth),
             rw (add-one (getD depths o 0)) (moved _ _ (kept-again small z (entered a))),
           )
 

@@ -117,11 +117,13 @@ module _ {σ : Trace} {e k : ℕ} (u : OfKind σ e k) where
     -- An inner event, a start or a join is marked by its own number,
     pub uncounted-marked : k ≡ uncountedKind → Matches σ (e + 1) (set table e e)
     uncounted-marked d =
-        let uncounted = isUncounted-kind σ e (u .kind-is) (omega (arith, u .op-lt)) ∙ eq-eqb k uncountedKind d in
+        let rule = isUncounted-kind σ e (u .kind-is) (omega (arith, u .op-lt)) in
+        let uncounted = rule ∙ eq-eqb k uncountedKind d in
         rw (add-one e) (rw uncounted at (matches-keep σ e table m (no-release (omega arith)) i))
 
     -- and another one that is no release has no match yet.
     pub no-release-matched : k ≢ 3 → k ≢ uncountedKind → Matches σ (e + 1) (set table e 0)
     no-release-matched d j =
-        let counted = isUncounted-kind σ e (u .kind-is) (omega (arith, u .op-lt)) ∙ ne-eqb k uncountedKind j in
+        let rule = isUncounted-kind σ e (u .kind-is) (omega (arith, u .op-lt)) in
+        let counted = rule ∙ ne-eqb k uncountedKind j in
         rw (add-one e) (rw counted at (matches-keep σ e table m (no-release d) i))

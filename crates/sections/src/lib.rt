@@ -22,9 +22,9 @@ pub fn held_locks(records: &[u8], e: usize, locksets: &[u64]) -> u64
     locksets[recording::task(records, e) as usize]
 }
 
-// The kind of event e: its operation, or 4 for a start, a join, an inner acquire, whose lock is in the mask of
-// its held locks, or an inner release, whose lock is at a depth above 1. The depths are then those after the
-// event.
+// The kind of event e: its operation, or 4 for a start, a join, an inner acquire, whose lock is in the mask
+// of its held locks, or an inner release, whose lock is at a depth above 1. The depths are then those after
+// the event.
 pub fn kind_of(records: &[u8], e: usize, mask: u64, depths: &mut [u16]) -> u8
     requires { ⌜ (1 ≤ e) × (2 * e ≤ length (now records)) × (e < tableLength)
         × (checkEvents (decodeAll (now records)) .refusal ≡ 0) × (mask ≡ held (decodeAll (now records)) e)

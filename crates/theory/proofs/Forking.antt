@@ -1,30 +1,30 @@
 -- Request 1 holds: what 15 and 16 refuse keeps starts before and joins after the events of their task, and
 -- schedules, next events and closed sets ask for them. Assumes nothing.
 use Prim.Native.Nat.{ℕ, suc, _+_, _≤_, _<_}
-use mathlib.Core.Path.{_≡_, refl, sym, _∙_}
+use mathlib.Core.Path.{_≡_, refl, _∙_}
 use mathlib.Core.Logic.{_⊎_, inl, inr, ⊎-elim, _↔_, _≢_}
-use mathlib.Core.Bool.{true, false, _||_}
+use mathlib.Core.Bool.{false, _||_}
 use mathlib.Core.List.{List, [], _∷_, _++_, List·Memᴰ, List·Memᴰ·head, List·Memᴰ·tail}
 use mathlib.Core.List.{List·Memᴰ·cases-cons, List·Memᴰ·not-nil}
 use native.Mathlib.Omega.{arith}
 use lib.Dec.{T, T-not, not-T, eqb→eq}
 use lib.ListN.{length}
-use Rattle.model.specs.Trace.{Trace, tasks, locks, syncObjects, acquireOp, releaseOp, at, task, object, depth}
+use Rattle.model.specs.Trace.{Trace, tasks, syncObjects, acquireOp, releaseOp, at, task, object, depth}
 use Rattle.model.specs.Trace.{isEvent, isAcquire, isRelease, hasAcquireOp, hasReleaseOp, sameTask}
-use Rattle.model.specs.Tasks.{isStart, isJoin, target, starts, joins}
+use Rattle.model.specs.Tasks.{isStart, isJoin, target, starts}
 use Rattle.model.specs.Recording.{trace}
-use Rattle.model.specs.Relations.{predecessor, matching}
+use Rattle.model.specs.Relations.{predecessor}
 use Rattle.model.specs.WellFormed.{isOver, joinsOwn, fault}
 use Rattle.model.specs.EventSet.{has}
-use Rattle.model.specs.Pattern.{isPattern}
 use Rattle.model.specs.Schedule.{mayFollow, continues, syncPreserving}
 use Rattle.model.specs.Calls.Check.{check}
 use Rattle.laws.specs.Walked.{previous, startIn}
-use Rattle.laws.proofs.Tests.{and-l, and-r, or-l, or-r, or-elim, is-true, is-false, equal?}
+use Rattle.laws.proofs.Tests.{and-l, and-r, or-l, or-r, or-elim, is-false, equal?}
 use Rattle.laws.proofs.Lists.{all-iff}
 use Rattle.laws.proofs.Depth.{isAcquire-iff, isRelease-iff, Moved, stays, deeper, back, depth-moved}
-use Rattle.laws.proofs.Tasks.{task-unlocked, starts-iff, start-event, start-object, starts-record, joins-record}
-use Rattle.laws.proofs.Relations.{matching-none, previous-latest, previous-below}
+use Rattle.laws.proofs.Tasks.{task-unlocked, starts-iff, start-event, start-object, starts-record}
+use Rattle.laws.proofs.Tasks.{joins-record}
+use Rattle.laws.proofs.Relations.{matching-none, previous-latest}
 use Rattle.laws.proofs.LastEvents.{startOf-latest}
 use Rattle.laws.proofs.Forks.{isNew-fails, isOver-iff, joinsOwn-iff}
 use Rattle.laws.proofs.Faults.{fault-object, fault-start, fault-four, fault-fifteen, fault-sixteen}

@@ -3,7 +3,7 @@
 use Prim.Native.Nat.{ℕ, _<_}
 use mathlib.Core.Path.{_≡_, refl, _∙_}
 use mathlib.Core.Logic.{_↔_, _≢_}
-use mathlib.Core.Bool.{true, false}
+use mathlib.Core.Bool.{false}
 use mathlib.Core.List.{List}
 use lib.Dec.{T, T-not, not-T, eqb→eq}
 use Rattle.model.specs.Trace.{Trace, locks, at, isEvent, object, hasAcquireOp, enters, ownDepth, isInner}

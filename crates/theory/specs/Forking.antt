@@ -50,8 +50,8 @@ pub record Forking (σ : Trace) : Type 0 where
       → ((f : ℕ) → 1 ≤ f → f < e → T (sameTask σ e f) → ⊥) → predecessor σ e ≡ s
   -- and that event is next only once the start is listed.
   pub next-started : (ρ : List ℕ) (e s : ℕ) → T (enabled σ ρ e) → T (starts σ (task σ e) s) → List·Memᴰ s ρ
-  -- A joined task's last event, or its start if it has no event, belongs to any closed set, so to any closure,
-  -- holding the join; and so do all of them.
+  -- A joined task's last event, or its start if it has no event, belongs to any closed set, so to any
+  -- closure, holding the join; and so do all of them.
   pub closed-joined : (c : EventSet) → Closed σ (λ e. T (has c e)) → (j e : ℕ) → T (has c j) → T (isJoin σ j)
       → 1 ≤ e → e ≤ length σ → T (belongs σ (target σ j) e) → T (has c e)
 

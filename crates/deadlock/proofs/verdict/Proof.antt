@@ -1,5 +1,5 @@
--- `deadlock::verdict` meets its contract: the recording's questions, then what is decided of the pattern. Assumes
--- nothing.
+-- `deadlock::verdict` meets its contract: the recording's questions, then what is decided of the pattern.
+-- Assumes nothing.
 use mathlib.Core.Path.{_≡_, refl, sym, ap, _∙_}
 use borrow.Author.Needs.{needs}
 use Rattle.model.specs.declared.Outcome.{Outcome}

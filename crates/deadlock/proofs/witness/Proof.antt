@@ -1,4 +1,5 @@
--- `deadlock::witness` meets its contract: the recording's questions, then the records decide. Assumes nothing.
+-- `deadlock::witness` meets its contract: the recording's questions, then the records decide.
+-- Assumes nothing.
 use mathlib.Core.Path.{_≡_, sym, ap, _∙_}
 use borrow.Author.Needs.{needs}
 use Rattle.model.specs.declared.Outcome.{Outcome}

@@ -43,7 +43,8 @@ returns-2 : tie.Need-returns-2
 returns-2 c =
     let s = c .before .before .before .before .before .before .before .before .before in
     let start = s .pre .3 .at (s .args .t) (s .pre .0) in
-    rw (eq-eqb (s .args .old) 0 (c .before .before .before .before .before .if1 .left), ← start) (refl, c .before .before .want-event .ensures)
+    rw (eq-eqb (s .args .old) 0 (c .before .before .before .before .before .if1 .left), ← start)
+    (refl, c .before .before .want-event .ensures)
 
 pub begin-spec : {M : Type 1} → statement M
 begin-spec =

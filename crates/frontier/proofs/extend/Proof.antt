@@ -19,7 +19,8 @@ use Rattle.frontier.proofs.want_event.Reads as want-event-reads
 
 -- The predecessor is an event of the records, or 0.
 known : (s : tie.Start)
-    → predecessor (decodeAll (s .args .records .now)) (s .args .e) ≤ length (decodeAll (s .args .records .now))
+    → predecessor (decodeAll (s .args .records .now)) (s .args .e) ≤ length (decodeAll
+    (s .args .records .now))
 known s =
     let b = s .args .records .now in
     omega (arith, predecessor-below (decodeAll b) (s .args .e), s .pre .6, decodeAll-length b)
@@ -43,7 +44,8 @@ more : (c : tie.After-want-event)
 more c =
     let s = start c in
     let σ = decodeAll (s .args .records .now) in
-    c .want-event .ensures ∙ ap (λ (w : List ℕ). wanted σ w (getD (s .args .predecessors .now) (s .args .e) 0)) (s .pre .4)
+    c .want-event .ensures ∙ ap (λ (w : List ℕ). wanted σ w (getD (s .args .predecessors .now)
+    (s .args .e) 0)) (s .pre .4)
     ∙ ap (λ (x : ℕ). wanted σ (s .args .front .now) x) (noted s)
 
 mul-want-event : tie.Need-mul-want-event
@@ -66,7 +68,8 @@ advance-requires c κs =
       s .pre .0,
       s .pre .1,
       s .pre .2,
-      rw (more k) (settled-wanted _ (events-sound (s .args .records .now) (s .pre .1)) _ _ _ (s .pre .3) _ (known s)),
+      rw (more k) (settled-wanted _ (events-sound (s .args .records .now) (s .pre .1)) _ _ _ (s .pre .3) _
+          (known s)),
     )
 
 same-length : tie.Need-same-length
@@ -80,7 +83,12 @@ same-length-3 c = search needs
 
 returns : tie.Need-returns
 returns c =
-    let a = c .before .before .before .before .before .before .advance .ensures in (rw (more (c .before .before .before .before .before .before .before .before .before .before .before .before)) at (a .0), a .1)
+    let a = c .before .before .before .before .before .before .advance .ensures in (
+      rw (more (c
+          .before .before .before .before .before .before .before .before .before .before .before .before)) at
+          (a .0),
+      a .1,
+    )
 
 pub extend-spec : {M : Type 1} → statement M
 extend-spec =

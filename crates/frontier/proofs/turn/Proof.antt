@@ -28,16 +28,21 @@ inside c = omega (arith, c .pre .4, c .pre .3 .front-ok .long, c .pre .3 .want-o
 
 -- Where the turn began.
 abbrev start : tie.At-loop Inv-loop μ-loop → tie.Start Inv-loop μ-loop
-start c = c .before .before .before .before .before .before .before .before .before .before .before .before .before .before
+start c =
+    c .before .before .before .before .before .before .before .before .before .before .before .before
+    .before .before
 
 -- The turn at its beginning.
-begun : (c : tie.After-begin Inv-loop μ-loop) → let s = c .before .before .before .before .before .before .before .before .before .before .before in
-    Turning (decodeAll (s .args .records .now)) (set (s .args .front .now) (s .args .t) (getD (s .args .want .now) (s .args .t) 0))
+begun : (c : tie.After-begin Inv-loop μ-loop) → let s =
+    c .before .before .before .before .before .before .before .before .before .before .before in
+    Turning (decodeAll (s .args .records .now)) (set (s .args .front .now) (s .args .t) (getD
+    (s .args .want .now) (s .args .t) 0))
     (s .args .want .now) (c .begin .last .1 .1 .0) (s .args .latest .now) (s .args .t)
     (getD (s .args .front .now) (s .args .t) 0) (c .begin .result) (getD (s .args .want .now) (s .args .t) 0)
 begun c =
     let s = c .before .before .before .before .before .before .before .before .before .before .before in
-    turning-begin _ (events-sound (s .args .records .now) (s .pre .1)) _ _ _ _ (s .pre .3) (s .pre .4) (s .pre .5)
+    turning-begin _ (events-sound (s .args .records .now) (s .pre .1)) _ _ _ _ (s .pre .3) (s .pre .4)
+    (s .pre .5)
     (c .begin .ensures .0) (c .begin .ensures .1)
 
 -- The event to be visited,
@@ -77,10 +82,20 @@ begin-requires c κs =
     (s .pre .4, s .pre .2 .predecessor-long, s .pre .3 .want-ok .long, s .pre .2 .start-at)
 
 mul-front : tie.Need-mul-front Inv-loop μ-loop
-mul-front c = omega (arith, inside (c .before .before .before .before .before .before .before .before .before .before .before .before .before))
+mul-front c =
+    omega (
+      arith,
+      inside (c .before .before .before .before .before .before .before .before .before
+          .before .before .before .before),
+    )
 
 slice-write-front : tie.Need-slice-write-front Inv-loop μ-loop
-slice-write-front c = omega (arith, inside (c .before .before .before .before .before .before .before .before .before .before .before .before .before))
+slice-write-front c =
+    omega (
+      arith,
+      inside (c .before .before .before .before .before .before .before .before .before
+          .before .before .before .before),
+    )
 
 loop-holds : tie.Need-loop-holds Inv-loop μ-loop
 loop-holds c =

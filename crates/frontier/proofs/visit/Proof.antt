@@ -40,7 +40,8 @@ want-event-requires : tie.Need-want-event-requires
 want-event-requires c κs =
     let s = start (c .before .before .before) in
     let (h, k) = record-event (s .args .records .now) (s .args .f) (s .pre .0, s .pre .1) in (
-      awaited-in (s .args .records .now) (s .args .f) (h, s .pre .1) _ (s .pre .6 .writer-at (s .args .f) h k),
+      awaited-in (s .args .records .now) (s .args .f) (h, s .pre .1) _ (s .pre .6 .writer-at
+          (s .args .f) h k),
       s .pre .4,
     )
 
@@ -63,7 +64,8 @@ shared-slice-read-if2 c = search needs
 
 returns-2 : tie.Need-returns-2
 returns-2 c =
-    uncounted-visited (unpacked (c .before .before .before)) _ _ (c .before .before .if1 .left) (c .if2 .taken)
+    uncounted-visited (unpacked (c .before .before .before)) _ _ (c .before .before .if1 .left)
+    (c .if2 .taken)
 
 visit-acquire-requires : tie.Need-visit-acquire-requires
 visit-acquire-requires c κs =
@@ -89,7 +91,8 @@ same-length-3 c = search needs
 returns-3 : tie.Need-returns-3
 returns-3 c =
     let e = c .before .before .before .before .before .before .before .before .before in
-    acquire-visited (unpacked (e .before)) _ _ (e .if1 .left) (c .before .before .before .before .before .before .before .if2 .left)
+    acquire-visited (unpacked (e .before)) _ _ (e .if1 .left) (c .before .before .before .before
+    .before .before .before .if2 .left)
     (c .before .before .before .before .visit-acquire .ensures)
 
 pub visit-spec : {M : Type 1} → statement M

@@ -26,7 +26,8 @@ same-length c = search needs
 returns-2 : tie.Need-returns-2
 returns-2 c =
     let t = c .before .before .before in
-    rw (wanted-some _ _ (t .before .before .if1 .left), ← (t .task .ensures .1)) (c .before .before .raise .ensures)
+    rw (wanted-some _ _ (t .before .before .if1 .left), ← (t .task .ensures .1))
+    (c .before .before .raise .ensures)
 
 pub want-event-spec : {M : Type 1} → statement M
 want-event-spec =

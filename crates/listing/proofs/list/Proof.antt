@@ -1,4 +1,5 @@
--- `listing::list` meets its contract: the recording's questions, then 8, then what is delivered. Assumes nothing.
+-- `listing::list` meets its contract: the recording's questions, then 8, then what is delivered.
+-- Assumes nothing.
 use Prim.Native.Nat.{_≤_}
 use mathlib.Core.Path.{_≡_, sym, ap, _∙_}
 use borrow.Author.Needs.{needs}

@@ -21,7 +21,8 @@ shared-slice-read-result c = search needs
 
 returns : tie.Need-returns
 returns c =
-    let s = c .before .before .before in last-start _ _ (s .pre .3) (s .pre .4) (s .pre .2) (s .pre .0) (c .before .if1 .taken)
+    let s = c .before .before .before in last-start _ _ (s .pre .3) (s .pre .4) (s .pre .2) (s .pre .0)
+    (c .before .if1 .taken)
 
 mul-result-2 : tie.Need-mul-result-2
 mul-result-2 c = search needs
@@ -31,7 +32,8 @@ shared-slice-read-result-2 c = search needs
 
 returns-2 : tie.Need-returns-2
 returns-2 c =
-    let s = c .before .before .before in last-latest _ _ (s .pre .3) (s .pre .4) (s .pre .2) (s .pre .0) (c .before .if1 .left)
+    let s = c .before .before .before in last-latest _ _ (s .pre .3) (s .pre .4) (s .pre .2) (s .pre .0)
+    (c .before .if1 .left)
 
 pub last-of-spec : {M : Type 1} → statement M
 last-of-spec =

@@ -1,5 +1,4 @@
 -- `order::note_awaited` meets its contract: each return cites the law of its case. Assumes nothing.
-use native.Mathlib.Omega.{arith}
 use Rattle.model.specs.Recording.{decodeAll}
 use Rattle.order.proofs.Laws.{WithObject, read-noted, write-noted, sync-noted}
 use borrow.Author.Needs.{needs}
@@ -77,7 +76,8 @@ returns-2 : tie.Need-returns-2
 returns-2 c =
     let k = c .before .before .before in
     let s = start k in
-    write-noted (unpacked k) (s .pre .9) (s .pre .11) (s .pre .10) (search needs) (c .before .before .if1 .left)
+    write-noted (unpacked k) (s .pre .9) (s .pre .11) (s .pre .10) (search needs)
+    (c .before .before .if1 .left)
     (c .before .joined-of .ensures) (c .if2 .taken)
 
 same-length-4 : tie.Need-same-length-4
@@ -87,7 +87,8 @@ returns-3 : tie.Need-returns-3
 returns-3 c =
     let k = c .before .before .before in
     let s = start k in
-    sync-noted (unpacked k) (s .pre .9) (s .pre .11) (s .pre .10) (search needs) (c .before .before .if1 .left)
+    sync-noted (unpacked k) (s .pre .9) (s .pre .11) (s .pre .10) (search needs)
+    (c .before .before .if1 .left)
     (c .before .joined-of .ensures) (c .if2 .left)
 
 pub note-awaited-spec : {M : Type 1} → statement M

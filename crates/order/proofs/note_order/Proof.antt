@@ -1,5 +1,5 @@
--- `order::note_order` meets its contract: what is awaited is noted before the event is the latest of its task,
--- and its predecessor before it starts a task. Assumes nothing.
+-- `order::note_order` meets its contract: what is awaited is noted before the event is the latest of its
+-- task, and its predecessor before it starts a task. Assumes nothing.
 use borrow.Author.Needs.{needs}
 use Rattle.order.proofs.note_order.Statement.{statement}
 use Rattle.order.proofs.note_order.Tie as tie
@@ -16,7 +16,8 @@ note-task-requires c κs = search needs
 note-start-requires : tie.Need-note-start-requires
 note-start-requires c κs =
     let noted = c .before .before .before .before .before .note-task in
-    let s = c .before .before .before .before .before .before .before .before .before .before .before .before .before .before .before .before .before .before .before .before .before .before in
+    let s = c .before .before .before .before .before .before .before .before .before .before .before
+    .before .before .before .before .before .before .before .before .before .before .before in
     (s .pre .0, s .pre .1, s .pre .2, s .pre .3, search needs, noted .ensures .0, noted .ensures .1)
 
 same-length : tie.Need-same-length

@@ -39,7 +39,8 @@ same-length-2 c = search needs
 returns : tie.Need-returns
 returns c =
     let s = c .before .before .before .before .before .before .before in
-    task-noted _ _ (c .before .before .before .task .ensures) (c .last-of .ensures) (s .pre .2) (s .pre .3) (s .pre .4)
+    task-noted _ _ (c .before .before .before .task .ensures) (c .last-of .ensures) (s .pre .2) (s .pre .3)
+    (s .pre .4)
     (s .pre .5) (s .pre .6) (s .pre .7)
 
 pub note-task-spec : {M : Type 1} → statement M

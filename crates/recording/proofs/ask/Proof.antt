@@ -62,7 +62,8 @@ same-length-6 c = search needs
 
 returns : tie.Need-returns
 returns c =
-    let k = c .before .before .before .before .before .before .before .before .before .before .before in (answer-refused (answered k) (c .if1 .taken), λ q. absurd (c .if1 .taken q))
+    let k = c .before .before .before .before .before .before .before .before .before .before .before in
+    (answer-refused (answered k) (c .if1 .taken), λ q. absurd (c .if1 .taken q))
 
 same-length-7 : tie.Need-same-length-7
 same-length-7 c = search needs
@@ -84,7 +85,8 @@ same-length-12 c = search needs
 
 returns-2 : tie.Need-returns-2
 returns-2 c =
-    let k = c .before .before .before .before .before .before .before .before .before .before .before .before in
+    let k = c .before .before .before .before .before .before .before .before .before .before .before
+    .before in
     (answer-over (answered k) (c .before .if1 .left) (c .if2 .taken), λ q. absurd (omega arith))
 
 cast-latest : tie.Need-cast-latest
@@ -119,7 +121,8 @@ same-length-18 c = search needs
 
 returns-3 : tie.Need-returns-3
 returns-3 c =
-    let k = c .before .before .before .before .before .before .before .before .before .before .before .before in
+    let k = c .before .before .before .before .before .before .before .before .before .before .before
+    .before in
     let none = c .before .if1 .left in
     answer-passed (answered k) none (c .if2 .left) (start k .pre .3) (k .ask-object .ensures .1 none)
 

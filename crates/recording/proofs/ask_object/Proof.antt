@@ -1,5 +1,5 @@
 -- `recording::ask_object` meets its contract: each return cites the law of its case. Assumes nothing.
-use Prim.Native.Nat.{_-_, _≤_, _<_}
+use Prim.Native.Nat.{_-_}
 use mathlib.Core.Path.{_≡_}
 use mathlib.Core.Logic.{_≢_}
 use native.Mathlib.Omega.{arith}
@@ -87,7 +87,8 @@ returns-3 c =
 
 returns-4 : tie.Need-returns-4
 returns-4 c =
-    no-object (unpacked (c .before .before .before)) (c .before .before .if1 .left) (c .before .if3 .left) (c .if4 .taken)
+    no-object (unpacked (c .before .before .before)) (c .before .before .if1 .left) (c .before .if3 .left)
+    (c .if4 .taken)
 
 start-requires : tie.Need-start-requires
 start-requires c κs =
@@ -95,7 +96,8 @@ start-requires c κs =
     let u = unpacked (record-at k) in
     let s = start (record-at k) .pre in
     let outside = c .before .before .before .if5 .taken in
-    let is-start = starts-is _ _ (u .op-is .1) (omega (arith, outside, u .object-is)) (c .before .before .if6 .taken) in (
+    let is-start = starts-is _ _ (u .op-is .1) (omega (arith, outside, u .object-is))
+    (c .before .before .if6 .taken) in (
       s .2,
       rw is-start tt,
       s .4,
@@ -118,7 +120,8 @@ same-length-3 c = search needs
 returns-5 : tie.Need-returns-5
 returns-5 c =
     let k = c .before .before .before .before .before .before .before in
-    started (unpacked (record-at k)) (c .before .before .before .before .before .before .if5 .taken) (k .if4 .left) (unwritten k) (c .before .before .before .before .before .if6 .taken) _ _ (search needs)
+    started (unpacked (record-at k)) (c .before .before .before .before .before .before .if5 .taken)
+    (k .if4 .left) (unwritten k) (c .before .before .before .before .before .if6 .taken) _ _ (search needs)
     (c .before .before .start .ensures)
 
 join-requires : tie.Need-join-requires
@@ -127,7 +130,8 @@ join-requires c κs =
     let u = unpacked (record-at k) in
     let s = start (record-at k) .pre in
     let outside = c .before .before .if5 .taken in
-    let is-join = joins-is _ _ (u .op-is .1) (omega (arith, outside, u .object-is)) (release k (c .before .if6 .left)) in (
+    let is-join = joins-is _ _ (u .op-is .1) (omega (arith, outside, u .object-is)) (release k
+    (c .before .if6 .left)) in (
       s .2,
       rw is-join tt,
       s .4,
@@ -143,7 +147,8 @@ same-length-4 c = search needs
 returns-6 : tie.Need-returns-6
 returns-6 c =
     let k = c .before .before .before .before .before .before in
-    joined (unpacked (record-at k)) (c .before .before .before .before .before .if5 .taken) (k .if4 .left) (unwritten k) (release k (c .before .before .before .before .if6 .left)) _ _ (search needs)
+    joined (unpacked (record-at k)) (c .before .before .before .before .before .if5 .taken) (k .if4 .left)
+    (unwritten k) (release k (c .before .before .before .before .if6 .left)) _ _ (search needs)
     (c .before .before .join .ensures)
 
 enter-requires : tie.Need-enter-requires
@@ -152,7 +157,8 @@ enter-requires c κs =
     let u = unpacked (record-at k) in
     let s = start (record-at k) .pre in
     let inside = c .before .before .before .if5 .left in
-    let entered = enters-is _ _ (u .op-is .1) (omega (arith, inside, u .object-is)) (c .before .before .if7 .taken) in
+    let entered = enters-is _ _ (u .op-is .1) (omega (arith, inside, u .object-is))
+    (c .before .before .if7 .taken) in
     (s .0, s .2, entered, s .3, s .4, inside, u .object-is .1, s .5 .done .holder)
 
 same-length-5 : tie.Need-same-length-5
@@ -164,7 +170,9 @@ same-length-6 c = search needs
 returns-7 : tie.Need-returns-7
 returns-7 c =
     let k = c .before .before .before .before .before .before .before .before .before in
-    acquired (unpacked (record-at k)) (c .before .before .before .before .before .before .before .before .if5 .left) (unwritten k) (c .before .before .before .before .before .before .before .if7 .taken) _ _ _
+    acquired (unpacked (record-at k)) (c .before .before .before .before .before .before .before
+    .before .if5 .left) (unwritten k) (c .before .before .before .before .before .before
+    .before .if7 .taken) _ _ _
     (c .before .before .before .before .enter .ensures)
 
 leave-requires : tie.Need-leave-requires
@@ -173,7 +181,8 @@ leave-requires c κs =
     let u = unpacked (record-at k) in
     let s = start (record-at k) .pre in
     let inside = c .before .before .before .if5 .left in
-    let left = leaves-is _ _ (u .op-is .1) (omega (arith, inside, u .object-is)) (release k (c .before .before .if7 .left)) in
+    let left = leaves-is _ _ (u .op-is .1) (omega (arith, inside, u .object-is)) (release k
+    (c .before .before .if7 .left)) in
     (left, s .3, s .4, inside, u .object-is .1, s .5 .done .holder)
 
 same-length-7 : tie.Need-same-length-7
@@ -185,7 +194,9 @@ same-length-8 c = search needs
 returns-8 : tie.Need-returns-8
 returns-8 c =
     let k = c .before .before .before .before .before .before .before .before .before in
-    released (unpacked (record-at k)) (c .before .before .before .before .before .before .before .before .if5 .left) (unwritten k) (release k (c .before .before .before .before .before .before .before .if7 .left)) _ _ _
+    released (unpacked (record-at k)) (c .before .before .before .before .before .before .before
+    .before .if5 .left) (unwritten k) (release k (c .before .before .before .before .before .before
+    .before .if7 .left)) _ _ _
     (c .before .before .before .before .leave .ensures)
 
 pub ask-object-spec : {M : Type 1} → statement M

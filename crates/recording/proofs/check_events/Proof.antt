@@ -14,11 +14,14 @@ use Rattle.recording.proofs.check_events.Lts as lts
 use Rattle.recording.proofs.ask.Reads as ask-reads
 
 abbrev Inv-loop : tie.InvT-loop
-Inv-loop records holders₀ depths₀ writes₀ latest₀ starts₀ joins₀ e₀ holders depths writes latest starts joins e =
-    (1 ≤ e) × (e ≤ length records / 2 + 1) × Asked (decodeAll records) e holders depths writes latest starts joins
+Inv-loop records holders₀ depths₀ writes₀ latest₀ starts₀ joins₀ e₀ holders depths writes latest starts joins
+    e =
+    (1 ≤ e) × (e ≤ length records / 2 + 1) × Asked
+    (decodeAll records) e holders depths writes latest starts joins
 
 abbrev μ-loop : tie.MeasureT-loop
-μ-loop records holders₀ depths₀ writes₀ latest₀ starts₀ joins₀ e₀ holders depths writes latest starts joins e =
+μ-loop records holders₀ depths₀ writes₀ latest₀ starts₀ joins₀ e₀ holders depths writes latest starts joins e
+    =
     length records / 2 + 1 - e
 
 loop-holds : tie.Need-loop-holds Inv-loop μ-loop

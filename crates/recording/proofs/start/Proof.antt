@@ -67,7 +67,8 @@ same-length c = search needs
 returns-5 : tie.Need-returns-5
 returns-5 c =
     let k = c .before .before in
-    start-new (unpacked (k .before .before .before .before .before)) (k .before .before .before .before .if1 .left)
+    start-new (unpacked (k .before .before .before .before .before)) (k .before .before .before
+    .before .if1 .left)
     (k .before .before .if2 .left) (k .if3 .left) (c .if4 .left)
 
 pub start-spec : {M : Type 1} → statement M

@@ -27,7 +27,9 @@ abbrev μ-loop : tie.MeasureT-loop
 
 -- From the loop's body to the entry,
 abbrev entry : tie.In-loop Inv-loop μ-loop → tie.Start Inv-loop μ-loop
-entry k = k .before .before .before .before .before .before .before .before .before .before .before .before .before .before
+entry k =
+    k .before .before .before .before .before .before .before .before .before .before .before .before
+    .before .before
 
 -- and from where the event was noted to the body.
 abbrev body : tie.After-note-event Inv-loop μ-loop → tie.In-loop Inv-loop μ-loop
@@ -41,7 +43,8 @@ clear-starts-requires c κs = search needs
 loop-holds : tie.Need-loop-holds Inv-loop μ-loop
 loop-holds c =
     let cleared = c .before .before .clear-starts in
-    let s = c .before .before .before .before .before .before .before .before .before .before .before .before in (
+    let s = c .before .before .before .before .before .before .before .before .before .before .before
+    .before in (
       omega arith,
       omega arith,
       noted-start _ _ _ _ _ _ _ _ (record {

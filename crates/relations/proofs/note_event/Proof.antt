@@ -16,7 +16,9 @@ noted-record c = c .before .before .before .before .before .before .before .befo
 
 -- and from the locks to the order.
 abbrev noted-order : tie.After-note-locks → tie.After-note-order
-noted-order c = c .before .before .before .before .before .before .before .before .before .before .before .before .before .before
+noted-order c =
+    c .before .before .before .before .before .before .before .before .before .before .before .before
+    .before .before
 
 note-record-requires : tie.Need-note-record-requires
 note-record-requires c κs = search needs
@@ -42,7 +44,8 @@ note-order-requires c κs =
 
 note-locks-requires : tie.Need-note-locks-requires
 note-locks-requires c κs =
-    let s = entry (noted-record (c .before .before .before .before .before .before .before .before .before .before .before .before .before)) in
+    let s = entry (noted-record (c .before .before .before .before .before .before .before .before
+    .before .before .before .before .before)) in
     let z = s .pre .4 in (
       s .pre .0,
       s .pre .1,

@@ -1,4 +1,5 @@
--- `schedule::check_schedule` meets its contract: the recording's questions, then what is decided. Assumes nothing.
+-- `schedule::check_schedule` meets its contract: the recording's questions, then what is decided.
+-- Assumes nothing.
 use mathlib.Core.Path.{_≡_, sym, ap, _∙_}
 use borrow.Author.Needs.{needs}
 use Rattle.model.specs.declared.Outcome.{Outcome}

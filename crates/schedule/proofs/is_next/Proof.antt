@@ -36,7 +36,8 @@ returns c =
 returns-2 : tie.Need-returns-2
 returns-2 c =
     let k = c .before .before .before in
-    next-late _ _ (start k .args .e) (start k .pre .5) (k .task .ensures .1) (c .before .if1 .left) (c .if2 .taken)
+    next-late _ _ (start k .args .e) (start k .pre .5) (k .task .ensures .1) (c .before .if1 .left)
+    (c .if2 .taken)
 
 is-listed-requires : tie.Need-is-listed-requires
 is-listed-requires c κs =
