@@ -10,7 +10,7 @@ use borrow.Author.Tests.{eq-eqb, ne-eqb}
 use Rattle.model.specs.Trace.{Trace, task, object, isAcquire}
 use Rattle.model.specs.Recording.{decodeAll}
 use Rattle.laws.specs.EventKinds.{marked}
-use Rattle.laws.specs.Walked.{awaited}
+use Rattle.laws.specs.Order.{awaited}
 use Rattle.laws.specs.Frontier.{raised, wanted}
 use Rattle.laws.proofs.Operations.{isRead-op, isJoin-none, isAcquire-none}
 use Rattle.laws.proofs.Awaited.{awaited-none, awaited-below}

@@ -11,7 +11,7 @@ use borrow.Author.Tests.{lt-ltb, le-ltb}
 use Rattle.model.specs.Trace.{Trace, tasks, locks, task, object, isAcquire}
 use Rattle.model.specs.Relations.{predecessor, matching}
 use Rattle.model.specs.Closed.{Direct, Again}
-use Rattle.laws.specs.Walked.{previous, awaited}
+use Rattle.laws.specs.Order.{previous, awaited}
 use Rattle.laws.specs.Frontier.{Frontier, Behind, Visited, Advancing, Entails, raised, wanted}
 use Rattle.laws.proofs.Tests.{decided, equal?, at-most?}
 use Rattle.laws.proofs.Trace.{sameObject-iff}

@@ -8,7 +8,8 @@ use lib.Dec.{eqb}
 use lib.ListN.{length, getD}
 use Rattle.model.specs.Trace.{Trace, task, object, isAcquire}
 use Rattle.model.specs.Relations.{predecessor}
-use Rattle.laws.specs.Walked.{awaited, Starts}
+use Rattle.laws.specs.Order.{awaited}
+use Rattle.laws.specs.Walked.{Starts}
 use Rattle.laws.specs.EventKinds.{marked}
 use Rattle.laws.specs.Sizes.{tableLength, orderLength}
 use Rattle.laws.specs.Frontier.{raised, wanted}

@@ -11,7 +11,7 @@ use lib.Seq.{getD-set-same, getD-set-other}
 use Rattle.model.specs.Trace.{Trace, tasks, locks, task, object, isAcquire}
 use Rattle.model.specs.Relations.{predecessor, matching}
 use Rattle.model.specs.Closed.{Direct, predecessor-is, writer-is, joined-is}
-use Rattle.laws.specs.Walked.{previous, awaited}
+use Rattle.laws.specs.Order.{previous, awaited}
 use Rattle.laws.specs.Frontier.{Frontier, Behind, Visited, Advancing}
 use Rattle.laws.proofs.Tests.{equal?}
 use Rattle.laws.proofs.Trace.{sameTask-iff}

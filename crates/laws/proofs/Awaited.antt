@@ -11,7 +11,7 @@ use Rattle.model.specs.Trace.{Trace, at, isRead, isAcquire}
 use Rattle.model.specs.Tasks.{isJoin}
 use Rattle.model.specs.Relations.{writer, joined}
 use Rattle.model.specs.Closed.{Direct, writer-is, joined-is}
-use Rattle.laws.specs.Walked.{awaited}
+use Rattle.laws.specs.Order.{awaited}
 use Rattle.laws.proofs.Tests.{decided, is-true, equal?}
 use Rattle.laws.proofs.Relations.{writer-read, writer-none, joined-none}
 use Rattle.laws.proofs.Operations.{isRead-op, isJoin-none, isAcquire-none}

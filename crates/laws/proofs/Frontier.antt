@@ -11,7 +11,7 @@ use lib.Seq.{getD-set-same, getD-set-other}
 use borrow.Author.Tests.{ltb-true, ltb-false}
 use Rattle.model.specs.Trace.{Trace, tasks, task}
 use Rattle.model.specs.Closed.{Closed}
-use Rattle.laws.specs.Walked.{previous}
+use Rattle.laws.specs.Order.{previous}
 use Rattle.laws.specs.Frontier.{Frontier, Entails, raised}
 use Rattle.laws.proofs.Tests.{decided, equal?}
 use Rattle.laws.proofs.Trace.{sameTask-iff}

@@ -10,7 +10,7 @@ use borrow.Author.Tests.{eq-eqb, ne-eqb}
 use Rattle.model.specs.Trace.{Trace, task}
 use Rattle.model.specs.Tasks.{starts, joins, belongs}
 use Rattle.model.specs.Relations.{latestOf, startOf, joinOf, lastOf}
-use Rattle.laws.specs.Walked.{startIn}
+use Rattle.laws.specs.Order.{startIn}
 use Rattle.laws.proofs.Tests.{equal?, eq→eqb}
 use Rattle.laws.proofs.Searches.{Latest, lastBefore-latest, latest-below}
 use Rattle.laws.proofs.Tasks.{belongs-iff}

@@ -26,7 +26,7 @@ use Rattle.laws.proofs.Bits.{hasBit-none, hasBit-or, hasBit-bit, apart-
 use Rattle.laws.proofs.Trace.{sameTask-iff}
 use Rattle.laws.proofs.Relations.{previous-latest, previous-own, predecessor-previous}
 use Rattle.laws.proofs.Closed.{closed-predecessor}
-use Rattle.laws.specs.Walked.{previous}
+use Rattle.laws.specs.Order.{previous}
 use Rattle.laws.proofs.WellFormed.{WellFormed, lock-lt}
 use Rattle.laws.proofs.EventSet.{In, Within}
 use Rattle.laws.proofs.Frontier.{closed-earlier}

@@ -12,7 +12,7 @@ use Rattle.model.specs.Tasks.{isStart, isJoin, target, starts, joins, belongs}
 use Rattle.model.specs.Relations.{latestOf, startOf, joinOf, lastOf, predecessor, joined}
 use Rattle.model.specs.WellFormed.{isNew, isOver, joinsOwn}
 use Rattle.laws.proofs.Tests.{parts, and-l, and-i, or-l, or-r, not-or, eq→eqb, equal?, at-most?}
-use Rattle.laws.specs.Walked.{previous, startIn}
+use Rattle.laws.specs.Order.{previous, startIn}
 use Rattle.model.specs.Closed.{Closed}
 use Rattle.laws.proofs.Searches.{Latest}
 use Rattle.laws.proofs.Trace.{task-event, sameTask-iff}

@@ -2,6 +2,7 @@
 -- frontiers, rows of bits, chains and their search, and sizes. No call's contract names one.
 pub mod Sizes
 pub mod EventKinds
+pub mod Order
 pub mod Walked
 pub mod Answered
 pub mod Frontier

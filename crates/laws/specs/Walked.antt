@@ -8,25 +8,10 @@ use mathlib.Core.List.{List}
 use lib.Dec.{eqb}
 use lib.ListN.{length, getD}
 use Rattle.model.specs.Lists.{lastBefore, firstFrom, hasBit}
-use Rattle.model.specs.Trace.{Trace, tasks, locks, task, isRead, sameTask, sameObject, depth, isAcquire}
-use Rattle.model.specs.Trace.{isRelease}
-use Rattle.model.specs.Relations.{latestOf, startOf, writer, joined, acquireOf, holds}
+use Rattle.model.specs.Trace.{Trace, tasks, locks, sameTask, sameObject, depth, isAcquire, isRelease}
+use Rattle.model.specs.Relations.{startOf, acquireOf, holds}
 use Rattle.laws.specs.Sizes.{tableLength}
 use Rattle.laws.specs.EventKinds.{isUncounted}
-
--- Thread order alone: the latest earlier event of the event's task, or 0. The predecessor is this, or where
--- it is 0 the task's start.
-abbrev pub previous : Trace → ℕ → ℕ
-previous σ e = latestOf σ e (task σ e)
-
--- The start of task t, or 0.
-abbrev pub startIn : Trace → ℕ → ℕ
-startIn σ t = startOf σ (suc (length σ)) t
-
--- What an event awaits besides its predecessor: a read its writer, a join what it waits for, and another
--- event nothing, 0. One table has both, since no read is a join.
-unfoldable pub awaited : Trace → ℕ → ℕ
-awaited σ e = cond (isRead σ e) (writer σ e) (joined σ e)
 
 -- Lock l has task h - 1 at depth d as its holder, or none where h and d are 0 (02: the record kept for each
 -- lock is holder and depth).

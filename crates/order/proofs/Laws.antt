@@ -14,7 +14,8 @@ use Rattle.model.specs.Trace.{Trace, tasks, variables, at, task, object, isWrit
 use Rattle.model.specs.Tasks.{target}
 use Rattle.model.specs.Relations.{lastOf, predecessor, joined}
 use Rattle.laws.specs.Sizes.{tableLength, orderLength}
-use Rattle.laws.specs.Walked.{awaited, Filled, LatestEvents, Starts}
+use Rattle.laws.specs.Order.{awaited}
+use Rattle.laws.specs.Walked.{Filled, LatestEvents, Starts}
 use Rattle.laws.proofs.Tests.{equal?}
 use Rattle.laws.proofs.Relations.{joined-none, joined-last}
 use Rattle.laws.proofs.LatestEvents.{latest-set, latest-keep, latest-writer, filled-set}

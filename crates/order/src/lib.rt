@@ -9,7 +9,8 @@ ghost use Rattle.model.specs.Recording.{decodeAll};
 ghost use Rattle.model.specs.Relations.{lastOf, predecessor, joined};
 ghost use Rattle.model.specs.Calls.Check.{checkEvents};
 ghost use Rattle.laws.specs.Sizes.{tableLength, orderLength};
-ghost use Rattle.laws.specs.Walked.{awaited, Filled, LatestEvents, Starts};
+ghost use Rattle.laws.specs.Order.{awaited};
+ghost use Rattle.laws.specs.Walked.{Filled, LatestEvents, Starts};
 
 // Clears the entries of the tasks' starts.
 pub fn clear_starts(predecessors: &mut [u16])

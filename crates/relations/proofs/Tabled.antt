@@ -15,7 +15,7 @@ use Rattle.model.specs.declared.Relations.{Relations}
 use Rattle.laws.specs.Answered.{eventRelations}
 use Rattle.laws.proofs.Trace.{decodeAll-length}
 use Rattle.laws.specs.Sizes.{tableLength}
-use Rattle.laws.specs.Walked.{awaited}
+use Rattle.laws.specs.Order.{awaited}
 use Rattle.laws.proofs.LatestEvents.{latest-start, filled-start}
 use Rattle.laws.proofs.Starts.{starts-start}
 use Rattle.laws.proofs.Awaited.{writer-off}

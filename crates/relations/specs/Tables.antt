@@ -9,7 +9,8 @@ use lib.ListN.{length, getD}
 use Rattle.model.specs.Trace.{Trace, tasks, locks, variables, at, task, object, isWrite, isAcquire}
 use Rattle.model.specs.Relations.{predecessor, held}
 use Rattle.laws.specs.Sizes.{tableLength, orderLength}
-use Rattle.laws.specs.Walked.{awaited, Filled, LatestEvents, Starts, KeptDepths, Locksets, Matches}
+use Rattle.laws.specs.Order.{awaited}
+use Rattle.laws.specs.Walked.{Filled, LatestEvents, Starts, KeptDepths, Locksets, Matches}
 use Rattle.laws.specs.EventKinds.{marked}
 
 -- The operation of an event, as a relation.

@@ -13,7 +13,7 @@ use Rattle.model.specs.Relations.{predecessor, joined}
 use Rattle.model.specs.Recording.{decodeAll}
 use Rattle.model.specs.Schedule.{mayFollow}
 use Rattle.laws.specs.EventKinds.{marked}
-use Rattle.laws.specs.Walked.{awaited}
+use Rattle.laws.specs.Order.{awaited}
 use Rattle.laws.proofs.Trace.{decodeAll-length}
 use Rattle.laws.proofs.Relations.{predecessor-below, joined-none}
 use Rattle.laws.proofs.Operations.{isRead-op, isJoin-none, isAcquire-none}

@@ -1,4 +1,5 @@
 -- Laws of walks through schedules; each function's proof is in a folder of its own.
+pub mod Tasks
 pub mod Laws
 pub mod Asking
 pub mod Noting

@@ -24,7 +24,8 @@ use Rattle.laws.proofs.Operations.{isWrite-op, isAcquire-none}
 use Rattle.laws.proofs.Marks.{WithMark, marked-outer}
 use Rattle.laws.proofs.Schedule.{MayFollow, mayFollow-iff}
 use Rattle.schedule.specs.Listed.{UpTo, Acquired, Written, Listed}
-use Rattle.schedule.proofs.Laws.{listed-iff, Clear}
+use Rattle.schedule.proofs.Tasks.{listed-iff}
+use Rattle.schedule.proofs.Laws.{Clear}
 
 -- ---- the start
 

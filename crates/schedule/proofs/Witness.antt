@@ -18,7 +18,7 @@ use Rattle.laws.proofs.Trace.{isEvent-iff}
 use Rattle.laws.proofs.Questions.{events-sound}
 use Rattle.schedule.specs.Listed.{UpTo}
 use Rattle.schedule.specs.Next.{isNext}
-use Rattle.schedule.proofs.Laws.{enabled-next}
+use Rattle.schedule.proofs.Tasks.{enabled-next}
 
 -- The events that are next by the table of tasks are the enabled ones.
 next-enabled : (b ρ last p : List ℕ) → checkEvents (decodeAll b) .refusal ≡ 0 → UpTo (decodeAll b) ρ last

@@ -18,7 +18,7 @@ use Rattle.model.specs.WellFormed.{isOver, joinsOwn, fault}
 use Rattle.model.specs.EventSet.{has}
 use Rattle.model.specs.Schedule.{mayFollow, continues, syncPreserving}
 use Rattle.model.specs.Calls.Check.{check}
-use Rattle.laws.specs.Walked.{previous, startIn}
+use Rattle.laws.specs.Order.{previous, startIn}
 use Rattle.laws.proofs.Tests.{and-l, and-r, or-l, or-r, or-elim, is-false, equal?}
 use Rattle.laws.proofs.Lists.{all-iff}
 use Rattle.laws.proofs.Depth.{isAcquire-iff, isRelease-iff, Moved, stays, deeper, back, depth-moved}

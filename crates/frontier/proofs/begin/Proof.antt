@@ -8,7 +8,6 @@ use Rattle.laws.proofs.LastEvents.{startIn-le}
 use borrow.Author.Needs.{needs}
 use Rattle.frontier.proofs.begin.Statement.{statement}
 use Rattle.frontier.proofs.begin.Tie as tie
-use Rattle.frontier.proofs.want_event.Reads as want-event-reads
 
 returns : tie.Need-returns
 returns c =

@@ -14,8 +14,6 @@ use Rattle.laws.proofs.Wanted.{settled-wanted}
 use Rattle.laws.proofs.Questions.{events-sound}
 use Rattle.frontier.proofs.extend.Statement.{statement}
 use Rattle.frontier.proofs.extend.Tie as tie
-use Rattle.frontier.proofs.advance.Reads as advance-reads
-use Rattle.frontier.proofs.want_event.Reads as want-event-reads
 
 -- The predecessor is an event of the records, or 0.
 known : (s : tie.Start)

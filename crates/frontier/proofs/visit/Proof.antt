@@ -10,9 +10,6 @@ use Rattle.frontier.proofs.Leaves.{other-visited, uncounted-visited, ac
 use borrow.Author.Needs.{needs}
 use Rattle.frontier.proofs.visit.Statement.{statement}
 use Rattle.frontier.proofs.visit.Tie as tie
-use Rattle.frontier.proofs.visit_acquire.Reads as visit-acquire-reads
-use Rattle.frontier.proofs.want_event.Reads as want-event-reads
-use Rattle.recording.proofs.operation.Reads as operation-reads
 
 -- The entry, from where the operation is read.
 abbrev start : tie.After-operation → tie.Start

@@ -4,8 +4,6 @@ use Rattle.frontier.proofs.Leaves.{wanted-none, wanted-some}
 use borrow.Author.Needs.{needs}
 use Rattle.frontier.proofs.want_event.Statement.{statement}
 use Rattle.frontier.proofs.want_event.Tie as tie
-use Rattle.frontier.proofs.raise.Reads as raise-reads
-use Rattle.recording.proofs.task.Reads as task-reads
 
 returns : tie.Need-returns
 returns c =

@@ -6,9 +6,6 @@ use Rattle.order.proofs.Laws.{WithObject, names-task, joined-task, join
 use borrow.Author.Needs.{needs}
 use Rattle.order.proofs.joined_of.Statement.{statement}
 use Rattle.order.proofs.joined_of.Tie as tie
-use Rattle.order.proofs.last_of.Reads as last-of-reads
-use Rattle.recording.proofs.object.Reads as object-reads
-use Rattle.recording.proofs.operation.Reads as operation-reads
 
 -- The entry, from where the object is unpacked,
 abbrev start : tie.After-object → tie.Start

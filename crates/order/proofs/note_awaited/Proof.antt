@@ -4,9 +4,6 @@ use Rattle.order.proofs.Laws.{WithObject, read-noted, write-noted, sync
 use borrow.Author.Needs.{needs}
 use Rattle.order.proofs.note_awaited.Statement.{statement}
 use Rattle.order.proofs.note_awaited.Tie as tie
-use Rattle.order.proofs.joined_of.Reads as joined-of-reads
-use Rattle.recording.proofs.object.Reads as object-reads
-use Rattle.recording.proofs.operation.Reads as operation-reads
 
 -- The entry, from where the event is unpacked,
 abbrev start : tie.After-object → tie.Start

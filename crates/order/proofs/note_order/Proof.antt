@@ -3,9 +3,6 @@
 use borrow.Author.Needs.{needs}
 use Rattle.order.proofs.note_order.Statement.{statement}
 use Rattle.order.proofs.note_order.Tie as tie
-use Rattle.order.proofs.note_awaited.Reads as note-awaited-reads
-use Rattle.order.proofs.note_start.Reads as note-start-reads
-use Rattle.order.proofs.note_task.Reads as note-task-reads
 
 note-awaited-requires : tie.Need-note-awaited-requires
 note-awaited-requires c κs = search needs

@@ -7,8 +7,6 @@ use Rattle.order.proofs.Laws.{WithObject, names-task, start-noted, lock
 use borrow.Author.Needs.{needs}
 use Rattle.order.proofs.note_start.Statement.{statement}
 use Rattle.order.proofs.note_start.Tie as tie
-use Rattle.recording.proofs.object.Reads as object-reads
-use Rattle.recording.proofs.operation.Reads as operation-reads
 
 -- The entry, from where the object is unpacked,
 abbrev start : tie.After-object → tie.Start

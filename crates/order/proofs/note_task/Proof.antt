@@ -3,8 +3,6 @@ use Rattle.order.proofs.Laws.{task-noted}
 use borrow.Author.Needs.{needs}
 use Rattle.order.proofs.note_task.Statement.{statement}
 use Rattle.order.proofs.note_task.Tie as tie
-use Rattle.order.proofs.last_of.Reads as last-of-reads
-use Rattle.recording.proofs.task.Reads as task-reads
 
 task-requires : tie.Need-task-requires
 task-requires c κs = search needs

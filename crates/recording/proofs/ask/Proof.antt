@@ -7,8 +7,6 @@ use Rattle.recording.proofs.Walk.{Answered, over-at, answer-refused, an
 use borrow.Author.Needs.{needs}
 use Rattle.recording.proofs.ask.Statement.{statement}
 use Rattle.recording.proofs.ask.Tie as tie
-use Rattle.recording.proofs.ask_object.Reads as ask-object-reads
-use Rattle.recording.proofs.task.Reads as task-reads
 
 -- From where the event has been asked, the place where its task is unpacked, and the entry.
 abbrev unpacking : tie.After-ask-object → tie.After-task

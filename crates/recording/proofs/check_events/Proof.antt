@@ -9,9 +9,6 @@ use Rattle.recording.specs.Asked.{Asked}
 use Rattle.recording.proofs.Walk.{asked-start, asked-refused, asked-passed}
 use Rattle.recording.proofs.check_events.Statement.{statement}
 use Rattle.recording.proofs.check_events.Tie as tie
-use Rattle.recording.proofs.check_events.Reads as reads
-use Rattle.recording.proofs.check_events.Lts as lts
-use Rattle.recording.proofs.ask.Reads as ask-reads
 
 abbrev Inv-loop : tie.InvT-loop
 Inv-loop records holders₀ depths₀ writes₀ latest₀ starts₀ joins₀ e₀ holders depths writes latest starts joins
