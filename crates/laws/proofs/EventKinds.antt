@@ -2,14 +2,17 @@
 use Prim.Native.Nat.{ℕ, _≤_, _<_}
 use mathlib.Core.Path.{_≡_, refl, sym, _∙_}
 use mathlib.Core.Logic.{⊎-elim, _≢_}
-use mathlib.Core.Bool.{Bool, true, false, cond, not, _&&_, _||_}
+use mathlib.Core.Bool.{Bool, true, false, cond, not, _&&_, _||_, or-true}
 use native.Mathlib.Omega.{arith}
-use lib.Dec.{T, eqb}
+use lib.Dec.{T, not-T, eqb}
 use borrow.Author.Tests.{ne-eqb, lt-ltb}
-use Rattle.model.specs.Trace.{Trace, locks, at, object, isRead, hasAcquireOp, hasReleaseOp}
+use Rattle.model.specs.Trace.{Trace, locks, at, object, isRead, isWrite, hasAcquireOp, hasReleaseOp}
 use Rattle.model.specs.Trace.{enters, leaves, ownDepth, isAcquire, isRelease, isInner}
+use Rattle.model.specs.Tasks.{isStart, isJoin}
 use Rattle.laws.specs.EventKinds.{uncountedKind, isUncounted, kind}
-use Rattle.laws.proofs.Tests.{parts, decided, equal?, is-true, and-i, or-l, or-r, or-elim}
+use Rattle.laws.proofs.Tests.{parts, decided, equal?, is-true, is-false, and-i, and-l, or-l, or-r, or-elim}
+use Rattle.laws.proofs.Trace.{release-object}
+use Rattle.laws.proofs.Tasks.{acquire-start, join-object}
 use Rattle.laws.proofs.Operations.{isAcquire-op, isRelease-op, isAcquire-none, isRelease-none}
 use Rattle.laws.proofs.Operations.{isAcquire-task, isRelease-task}
 
@@ -43,6 +46,13 @@ module _ (σ : Trace) (e : ℕ) {k : ℕ} (q : k ≡ kind σ e) where
       rw q (by-operation σ e (λ op x y. eqb op 0 ≡ eqb (kindOf op x y) 0) refl refl refl refl
       (λ op m n. rw (ne-eqb op 2 m, ne-eqb op 3 n)))
 
+  -- a write's is 1,
+  pub isWrite-kind : isWrite σ e ≡ eqb k 1
+  unfolding kind isUncounted isWrite hasAcquireOp hasReleaseOp
+  isWrite-kind =
+      rw q (by-operation σ e (λ op x y. eqb op 1 ≡ eqb (kindOf op x y) 1) refl refl refl refl
+      (λ op m n. rw (ne-eqb op 2 m, ne-eqb op 3 n)))
+
   -- an outer acquire's is 2,
   pub isAcquire-kind : isAcquire σ e ≡ eqb k 2
   unfolding kind isUncounted hasAcquireOp hasReleaseOp
@@ -64,7 +74,34 @@ module _ (σ : Trace) (e : ℕ) {k : ℕ} (q : k ≡ kind σ e) where
       rw q (decided (isUncounted σ e) (λ y. rw y) (λ n. rw n (sym (ne-eqb (at σ e .op) uncountedKind d))))
 
 module _ (σ : Trace) (e : ℕ) where
-  -- Such a record is no outer acquire,
+  -- A start is such a record,
+  start-uncounted : T (isStart σ e) → isUncounted σ e ≡ true
+  unfolding isUncounted isStart
+  start-uncounted s =
+      let acquires = is-true (hasAcquireOp σ e) (and-l (hasAcquireOp σ e) _ s) in
+      let none = is-false (isAcquire σ e) (not-T (isAcquire σ e) (λ a. acquire-start σ e a s)) in
+      rw (acquires, none)
+
+  -- and so is a join.
+  join-uncounted : T (isJoin σ e) → isUncounted σ e ≡ true
+  unfolding isUncounted isJoin
+  join-uncounted j =
+      let releases = is-true (hasReleaseOp σ e) (and-l (hasReleaseOp σ e) _ j) in
+      let none = is-false (isRelease σ e) (not-T (isRelease σ e) (λ r.
+      omega (arith, release-object σ e r, join-object σ e j))) in
+      rw (releases, none, or-true)
+
+  -- So an event of another kind neither starts a task
+  pub isStart-kind : {k : ℕ} → k ≡ kind σ e → k ≢ uncountedKind → isStart σ e ≡ false
+  unfolding kind
+  isStart-kind q d = is-false (isStart σ e) (not-T (isStart σ e) (λ s. d (q ∙ rw (start-uncounted s))))
+
+  -- nor joins one.
+  pub isJoin-kind : {k : ℕ} → k ≡ kind σ e → k ≢ uncountedKind → isJoin σ e ≡ false
+  unfolding kind
+  isJoin-kind q d = is-false (isJoin σ e) (not-T (isJoin σ e) (λ j. d (q ∙ rw (join-uncounted j))))
+
+  -- A record that does not count is no outer acquire,
   pub uncounted-acquire : isUncounted σ e ≡ true → isAcquire σ e ≡ false
   unfolding kind
   uncounted-acquire y = isAcquire-kind σ e refl ∙ rw y

@@ -20,9 +20,9 @@ use Rattle.laws.proofs.Tests.{equal?}
 use Rattle.laws.proofs.Relations.{joined-none, joined-last}
 use Rattle.laws.proofs.LatestEvents.{latest-set, latest-keep, latest-writer, filled-set}
 use Rattle.laws.proofs.Starts.{starts-set, starts-keep, starts-noted, starts-last, filled-behind}
-use Rattle.laws.proofs.Operations.{isRead-op, isWrite-op, isStart-none, isJoin-none, isStart-lock}
-use Rattle.laws.proofs.Operations.{isJoin-lock}
-use Rattle.laws.proofs.Operations.{starts-is, joins-is}
+use Rattle.laws.proofs.Operations.{isStart-none, isJoin-none, isStart-lock, isJoin-lock, starts-is, joins-is}
+use Rattle.laws.specs.EventKinds.{kind}
+use Rattle.laws.proofs.EventKinds.{isRead-kind, isWrite-kind, isStart-kind, isJoin-kind}
 use Rattle.laws.proofs.Awaited.{awaited-read, awaited-other}
 use Rattle.laws.proofs.WellFormed.{WellFormed, sync-object}
 
@@ -106,6 +106,12 @@ module _ (σ : Trace) (e : ℕ) {op : ℕ} (q : op ≡ at σ e .op) where
       → Filled (predecessor σ) (e + 1) table × Starts σ (e + 1) table
   other-noted {table} f z d = (f, rw (add-one e) (starts-keep σ e table z (isStart-none σ e q d)))
 
+-- Nor does an event of another kind.
+pub kind-noted : (σ : Trace) (e : ℕ) {k : ℕ} → k ≡ kind σ e → {table : List ℕ}
+    → Filled (predecessor σ) (e + 1) table → Starts σ e table → k ≢ 4
+    → Filled (predecessor σ) (e + 1) table × Starts σ (e + 1) table
+kind-noted σ e q {table} f z d = (f, rw (add-one e) (starts-keep σ e table z (isStart-kind σ e q d)))
+
 -- ---- the predecessor
 
 module _ (σ : Trace) (e : ℕ) {t r : ℕ} (is-task : (t < tasks) × (t ≡ task σ e)) (q : r ≡ lastOf σ e t)
@@ -125,44 +131,55 @@ module _ (σ : Trace) (e : ℕ) {t r : ℕ} (is-task : (t < tasks) × (t ≡ tas
 
 -- ---- what is awaited
 
-module _ {σ : Trace} {e op o : ℕ} (u : WithObject σ e op o) {writes table : List ℕ}
+module _ (σ : Trace) (e : ℕ) {k : ℕ} (q : k ≡ kind σ e) {writes table : List ℕ}
     (long : length writes ≡ variables) (z : LatestEvents (isWrite σ) (object σ) e writes)
     (f : Filled (awaited σ) e table) (l : e < length table) where
-  unwritten : op ≢ 1 → LatestEvents (isWrite σ) (object σ) (e + 1) writes
+  unwritten : k ≢ 1 → LatestEvents (isWrite σ) (object σ) (e + 1) writes
   unwritten d =
-      rw (add-one e) (latest-keep (isWrite σ) (object σ) e writes z
-      (isWrite-op σ e (u .op-is .1) ∙ ne-eqb op 1 d))
+      rw (add-one e) (latest-keep (isWrite σ) (object σ) e writes z (isWrite-kind σ e q ∙ ne-eqb k 1 d))
 
-  -- A read awaits the latest write of its variable.
-  pub read-noted : op ≡ 0
-      → Filled (awaited σ) (e + 1) (set table e (getD writes o 0))
-      × LatestEvents (isWrite σ) (object σ) (e + 1) writes
-  read-noted a =
-      let read = isRead-op σ e (u .op-is .1) ∙ eq-eqb op 0 a in (
-        filled-set (awaited σ) e (getD writes o 0) table f l
-            (rw (u .object-is .1) (latest-writer σ e writes z read (omega (arith, u .object-is)))
-            ∙ sym (awaited-read σ e read)),
-        unwritten (omega arith),
+  unread : k ≢ 0 → awaited σ e ≡ joined σ e
+  unread d = awaited-other σ e (isRead-kind σ e q ∙ ne-eqb k 0 d)
+
+  -- A join awaits what it waits for, and a start or an inner event nothing.
+  pub uncounted-noted : k ≡ 4 → {r : ℕ} → r ≡ joined σ e
+      → Filled (awaited σ) (e + 1) (set table e r) × LatestEvents (isWrite σ) (object σ) (e + 1) writes
+  uncounted-noted a {r} j = (
+    filled-set (awaited σ) e r table f l (j ∙ sym (unread (omega arith))),
+    unwritten (omega arith),
+  )
+
+  module _ {v : ℕ} (is-object : (v < variables) × (v ≡ object σ e)) where
+    -- A read awaits the latest write of its variable.
+    pub read-noted : k ≡ 0
+        → Filled (awaited σ) (e + 1) (set table e (getD writes v 0))
+        × LatestEvents (isWrite σ) (object σ) (e + 1) writes
+    read-noted a =
+        let read = isRead-kind σ e q ∙ eq-eqb k 0 a in (
+          filled-set (awaited σ) e (getD writes v 0) table f l
+              (rw (is-object .1) (latest-writer σ e writes z read (omega arith))
+              ∙ sym (awaited-read σ e read)),
+          unwritten (omega arith),
+        )
+
+    module _ (n : k ≢ 4) (d : k ≢ 0) where
+      nothing : Filled (awaited σ) (e + 1) (set table e 0)
+      nothing =
+          filled-set (awaited σ) e 0 table f l
+          (sym (unread d ∙ joined-none σ e (isJoin-kind σ e q n)))
+
+      -- A write awaits nothing, and is the latest of its variable.
+      pub write-noted : k ≡ 1
+          → Filled (awaited σ) (e + 1) (set table e 0)
+          × LatestEvents (isWrite σ) (object σ) (e + 1) (set writes v e)
+      write-noted a = (
+        nothing,
+        rw (add-one e, is-object .1)
+            (latest-set (isWrite σ) (object σ) e writes z (rw (isWrite-kind σ e q, eq-eqb k 1 a) tt)
+            (omega arith)),
       )
 
-  module _ (d : op ≢ 0) {r : ℕ} (q : r ≡ joined σ e) where
-    awaits : Filled (awaited σ) (e + 1) (set table e r)
-    awaits =
-        filled-set (awaited σ) e r table f l
-        (q ∙ sym (awaited-other σ e (isRead-op σ e (u .op-is .1) ∙ ne-eqb op 0 d)))
-
-    -- A write awaits nothing, and is the latest of its variable.
-    pub write-noted : op ≡ 1
-        → Filled (awaited σ) (e + 1) (set table e r)
-        × LatestEvents (isWrite σ) (object σ) (e + 1) (set writes o e)
-    write-noted a = (
-      awaits,
-      rw (add-one e, u .object-is .1)
-          (latest-set (isWrite σ) (object σ) e writes z (rw (isWrite-op σ e (u .op-is .1), eq-eqb op 1 a) tt)
-          (omega (arith, u .object-is))),
-    )
-
-    -- Another event awaits what it joins.
-    pub sync-noted : op ≢ 1
-        → Filled (awaited σ) (e + 1) (set table e r) × LatestEvents (isWrite σ) (object σ) (e + 1) writes
-    sync-noted n = (awaits, unwritten n)
+      -- An outer acquire or release awaits nothing.
+      pub outer-noted : k ≢ 1
+          → Filled (awaited σ) (e + 1) (set table e 0) × LatestEvents (isWrite σ) (object σ) (e + 1) writes
+      outer-noted m = (nothing, unwritten m)

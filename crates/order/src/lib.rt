@@ -10,6 +10,7 @@ ghost use Rattle.model.specs.Relations.{lastOf, predecessor, joined};
 ghost use Rattle.model.specs.Calls.Check.{checkEvents};
 ghost use Rattle.laws.specs.Sizes.{tableLength, orderLength};
 ghost use Rattle.laws.specs.Order.{awaited};
+ghost use Rattle.laws.specs.EventKinds.{kind};
 ghost use Rattle.laws.specs.Walked.{Filled, LatestEvents, Starts};
 
 // Clears the entries of the tasks' starts.
@@ -58,17 +59,19 @@ fn joined_of(records: &[u8], e: usize, predecessors: &[u16], latest: &[u16]) -> 
     last_of(records, e, predecessors, latest, o - 64)
 }
 
-// Notes what event e awaits: of a read the latest write of its variable, of a join what it waits for.
+// Notes what event e, of kind k, awaits: of a read the latest write of its variable, of a join what it waits
+// for. Only a start, a join or an inner event has kind 4.
 fn note_awaited(
     records: &[u8],
     e: usize,
+    k: u8,
     predecessors: &[u16],
     latest: &[u16],
     writers: &mut [u16],
     writes: &mut [u16],
 )
     requires { ⌜ (1 ≤ e) × (2 * e ≤ length (now records)) × (e < tableLength)
-        × (checkEvents (decodeAll (now records)) .refusal ≡ 0)
+        × (checkEvents (decodeAll (now records)) .refusal ≡ 0) × (k ≡ kind (decodeAll (now records)) e)
         × (length (now predecessors) ≡ orderLength) × (length (now latest) ≡ tasks)
         × Starts (decodeAll (now records)) e (now predecessors)
         × LatestEvents (λ f. true) (task (decodeAll (now records))) e (now latest)
@@ -81,14 +84,17 @@ fn note_awaited(
         (object (decodeAll (now (records .entry))))
         (e + 1) (now (writes .exit)) ⌝ }
 {
-    let op = recording::operation(records, e);
+    if k == 4 {
+        writers[e] = joined_of(records, e, predecessors, latest);
+        return;
+    }
     let v = recording::object(records, e) as usize;
-    if op == 0 {
+    if k == 0 {
         writers[e] = writes[v];
         return;
     }
-    writers[e] = joined_of(records, e, predecessors, latest);
-    if op == 1 {
+    writers[e] = 0;
+    if k == 1 {
         writes[v] = e as u16;
     }
 }
@@ -110,16 +116,20 @@ fn note_task(records: &[u8], e: usize, predecessors: &mut [u16], latest: &mut [u
     latest[t] = e as u16;
 }
 
-// Notes event e where it is a start.
-fn note_start(records: &[u8], e: usize, predecessors: &mut [u16])
+// Notes event e, of kind k, where it is a start.
+fn note_start(records: &[u8], e: usize, k: u8, predecessors: &mut [u16])
     requires { ⌜ (1 ≤ e) × (2 * e ≤ length (now records)) × (e < tableLength)
-        × (checkEvents (decodeAll (now records)) .refusal ≡ 0) × (length (now predecessors) ≡ orderLength)
+        × (checkEvents (decodeAll (now records)) .refusal ≡ 0) × (k ≡ kind (decodeAll (now records)) e)
+        × (length (now predecessors) ≡ orderLength)
         × Filled (predecessor (decodeAll (now records))) (e + 1) (now predecessors)
         × Starts (decodeAll (now records)) e (now predecessors) ⌝ }
     ensures { λ r. ⌜ Filled (predecessor (decodeAll (now (records .entry)))) (e + 1)
         (now (predecessors .exit))
         × Starts (decodeAll (now (records .entry))) (e + 1) (now (predecessors .exit)) ⌝ }
 {
+    if k != 4 {
+        return;
+    }
     if recording::operation(records, e) != 2 {
         return;
     }
@@ -130,17 +140,18 @@ fn note_start(records: &[u8], e: usize, predecessors: &mut [u16])
     predecessors[4032 + o] = e as u16;
 }
 
-// Notes event e's predecessor and what it awaits, and what later events need of it for theirs.
+// Notes the predecessor of event e, of kind k, and what it awaits, and what later events need of it for theirs.
 pub fn note_order(
     records: &[u8],
     e: usize,
+    k: u8,
     predecessors: &mut [u16],
     latest: &mut [u16],
     writers: &mut [u16],
     writes: &mut [u16],
 )
     requires { ⌜ (1 ≤ e) × (2 * e ≤ length (now records)) × (e < tableLength)
-        × (checkEvents (decodeAll (now records)) .refusal ≡ 0)
+        × (checkEvents (decodeAll (now records)) .refusal ≡ 0) × (k ≡ kind (decodeAll (now records)) e)
         × (length (now predecessors) ≡ orderLength) × (length (now latest) ≡ tasks)
         × (length (now writers) ≡ tableLength) × (length (now writes) ≡ variables)
         × Filled (predecessor (decodeAll (now records))) e (now predecessors)
@@ -158,7 +169,7 @@ pub fn note_order(
         (object (decodeAll (now (records .entry))))
         (e + 1) (now (writes .exit)) ⌝ }
 {
-    note_awaited(records, e, predecessors, latest, writers, writes);
+    note_awaited(records, e, k, predecessors, latest, writers, writes);
     note_task(records, e, predecessors, latest);
-    note_start(records, e, predecessors);
+    note_start(records, e, k, predecessors);
 }

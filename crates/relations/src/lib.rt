@@ -13,6 +13,7 @@ ghost use Rattle.model.specs.Calls.Check.{checkEvents};
 ghost use Rattle.model.specs.Calls.Relations.{relations};
 ghost use Rattle.laws.specs.Sizes.{recordsLength, tableLength, orderLength};
 ghost use Rattle.laws.specs.Answered.{refusedRelations, eventRelations};
+ghost use Rattle.laws.specs.EventKinds.{kind};
 ghost use Rattle.laws.specs.Walked.{Filled, LatestEvents, KeptDepths, Locksets, Matches};
 ghost use Rattle.relations.specs.Tables.{operation, Tables, Noted};
 
@@ -42,7 +43,7 @@ fn note_record(
     objects[e] = o;
 }
 
-// Notes what event e does to locks: held locks, match, and the depths.
+// Notes what event e does to locks: held locks, match, and the depths; and returns its kind.
 fn note_locks(
     records: &[u8],
     e: usize,
@@ -51,7 +52,7 @@ fn note_locks(
     depths: &mut [u16],
     locksets: &mut [u64],
     acquires: &mut [u16],
-)
+) -> u8
     requires { ⌜ (1 ≤ e) × (2 * e ≤ length (now records)) × (e < tableLength)
         × (checkEvents (decodeAll (now records)) .refusal ≡ 0)
         × (length (now holding) ≡ tableLength) × (length (now matches) ≡ tableLength)
@@ -62,7 +63,8 @@ fn note_locks(
         × Locksets (decodeAll (now records)) e (now locksets)
         × LatestEvents (isAcquire (decodeAll (now records))) (object (decodeAll (now records))) e
         (now acquires) ⌝ }
-    ensures { λ r. ⌜ (length (now (acquires .exit)) ≡ locks)
+    ensures { λ r. ⌜ (r ≡ kind (decodeAll (now (records .entry))) e)
+        × (length (now (acquires .exit)) ≡ locks)
         × Filled (held (decodeAll (now (records .entry)))) (e + 1) (now (holding .exit))
         × Matches (decodeAll (now (records .entry))) (e + 1) (now (matches .exit))
         × KeptDepths (decodeAll (now (records .entry))) (e + 1) (now (depths .exit))
@@ -76,6 +78,7 @@ fn note_locks(
     sections::note_lockset(records, e, k, locksets);
     sections::note_match(records, e, k, matches, acquires);
     holding[e] = mask;
+    k
 }
 
 // Notes event e in every table.
@@ -107,8 +110,8 @@ fn note_event(
         (now (locksets .exit)) (now (acquires .exit)) ⌝ }
 {
     note_record(records, e, operations, tasks, objects);
-    order::note_order(records, e, predecessors, latest, writers, writes);
-    note_locks(records, e, holding, matches, depths, locksets, acquires);
+    let k = note_locks(records, e, holding, matches, depths, locksets, acquires);
+    order::note_order(records, e, k, predecessors, latest, writers, writes);
 }
 
 // Fills the tables of the records, whose events are accepted: one pass, each event noted in turn. That of

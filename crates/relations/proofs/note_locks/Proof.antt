@@ -58,6 +58,7 @@ returns c =
     let lockset = noted-lockset matched in
     let kinds = found-kind lockset in
     let s = entry kinds in (
+      kinds .kind-of .ensures .1,
       matched .note-match .ensures .0,
       filled-set (held (decodeAll (s .args .records .now))) (s .args .e) _ (s .args .holding .now) (s .pre .7)
           (omega (arith, s .pre .2, s .pre .4)) (kinds .before .before .held-locks .ensures),
