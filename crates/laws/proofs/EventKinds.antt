@@ -10,7 +10,8 @@ use Rattle.model.specs.Trace.{Trace, locks, at, object, isRead, isWrite, hasAcq
 use Rattle.model.specs.Trace.{enters, leaves, ownDepth, isAcquire, isRelease, isInner}
 use Rattle.model.specs.Tasks.{isStart, isJoin}
 use Rattle.laws.specs.EventKinds.{uncountedKind, isUncounted, kind}
-use Rattle.laws.proofs.Tests.{parts, decided, equal?, is-true, is-false, and-i, and-l, or-l, or-r, or-elim}
+use Rattle.laws.proofs.Tests.{parts, decided, equal?, is-true, is-false, and-i, and-l, or-l, or-r}
+use Rattle.laws.proofs.Tests.{or-elim}
 use Rattle.laws.proofs.Trace.{release-object}
 use Rattle.laws.proofs.Tasks.{acquire-start, join-object}
 use Rattle.laws.proofs.Operations.{isAcquire-op, isRelease-op, isAcquire-none, isRelease-none}

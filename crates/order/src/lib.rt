@@ -140,7 +140,8 @@ fn note_start(records: &[u8], e: usize, k: u8, predecessors: &mut [u16])
     predecessors[4032 + o] = e as u16;
 }
 
-// Notes the predecessor of event e, of kind k, and what it awaits, and what later events need of it for theirs.
+// Notes the predecessor of event e, of kind k, and what it awaits, and what later events need of it for
+// theirs.
 pub fn note_order(
     records: &[u8],
     e: usize,

@@ -3,25 +3,29 @@
 use Prim.Native.Nat.{ℕ, _+_, _-_, _/_, _≤_, _<_}
 use mathlib.Core.Path.{_≡_, sym, _∙_}
 use mathlib.Core.Logic.{⊎-elim, _≢_}
-use mathlib.Core.Bool.{true, cond, not}
+use mathlib.Core.Bool.{true, false, cond, not, _||_, or-true}
 use mathlib.Core.List.{List}
 use native.Mathlib.Numerals.{add-one}
 use native.Mathlib.Omega.{arith}
-use lib.Dec.{eqb}
+use lib.Dec.{T, not-T, eqb, leb}
 use lib.ListN.{length, getD, set, replicate, length-set, length-replicate}
-use borrow.Author.Tests.{eq-eqb, ne-eqb}
-use Rattle.model.specs.Trace.{Trace, tasks, locks, variables, task, object, isWrite}
+use borrow.Author.Tests.{eq-eqb, ne-eqb, le-leb, lt-leb}
+use Rattle.model.specs.Trace.{Trace, tasks, locks, variables, at, task, object, isWrite}
 use Rattle.model.specs.Tasks.{isStart, isJoin, target}
 use Rattle.model.specs.Recording.{decodeAll}
 use Rattle.model.specs.WellFormed.{isOver, fault}
 use Rattle.model.specs.Calls.Questions.{outcome}
 use Rattle.model.specs.Calls.Check.{checkEvents}
-use Rattle.laws.proofs.Tests.{equal?}
+use Rattle.laws.specs.Walked.{LatestEvents}
+use Rattle.laws.proofs.Tests.{equal?, at-most?, is-false, or-l, or-r}
+use Rattle.laws.proofs.Tasks.{joins-iff}
+use Rattle.laws.proofs.Forks.{isOver-iff}
+use Rattle.laws.proofs.Operations.{isStart-none, isJoin-none, isStart-lock, isJoin-lock, starts-is, joins-is}
 use Rattle.laws.proofs.Trace.{decodeAll-length}
 use Rattle.laws.proofs.LatestEvents.{latest-start, latest-set, latest-over}
 use Rattle.laws.proofs.Kept.{holders-start}
 use Rattle.laws.proofs.Faults.{checkEvents-fault, checkEvents-none}
-use Rattle.recording.specs.Asked.{Done, Asked}
+use Rattle.recording.specs.Asked.{Done, Plain, Asked}
 
 -- ---- one event
 
@@ -67,37 +71,104 @@ module _ {σ : Trace} {e t over r : ℕ} (u : Answered σ e t over r) where
             (omega (arith, u .task-is, z .latest-long)));
       }
 
--- ---- all events
+-- ---- starts and joins
 
--- Before event 1 the tables are clear.
-pub asked-start : (σ : Trace)
-    → Asked σ 1 (replicate locks 0) (replicate locks 1) (replicate variables 0) (replicate tasks 0)
-    (replicate tasks 0) (replicate tasks 0)
-asked-start σ = record {
-  faultless = λ f a b. absurd (omega arith);
-  done = record {
-    holder = holders-start;
-    writes-long = length-replicate {A = ℕ} variables 0;
-    written = latest-start (isWrite σ) (object σ) variables;
-    starts-long = length-replicate {A = ℕ} tasks 0;
-    started = latest-start (isStart σ) (target σ) tasks;
-    joins-long = length-replicate {A = ℕ} tasks 0;
-    joined = latest-start (isJoin σ) (target σ) tasks;
-  };
-  latest-long = length-replicate {A = ℕ} tasks 0;
-  events = latest-start (λ f. true) (task σ) tasks;
+module _ (σ : Trace) (e : ℕ) {op : ℕ} (q : (op < 4) × (op ≡ at σ e .op)) where
+  -- A read or a write is neither.
+  pub forks-access : op < 2 → false ≡ (isStart σ e || isJoin σ e)
+  forks-access h = rw (isStart-none σ e (q .1) (omega arith), isJoin-none σ e (q .1) (omega arith))
+
+  -- Another record is one where its object is no lock.
+  pub forks-object : 2 ≤ op → {o : ℕ} → o ≡ object σ e → leb 64 o ≡ (isStart σ e || isJoin σ e)
+  forks-object h {o} r =
+      ⊎-elim
+      (λ (l : 64 ≤ o).
+      let beyond : locks ≤ object σ e = omega arith in
+      ⊎-elim (λ (a : op ≡ 2). rw (le-leb 64 o l, starts-is σ e (q .1) beyond a))
+      (λ (d : op ≢ 2). rw (le-leb 64 o l, joins-is σ e (q .1) beyond (omega arith), or-true))
+      (equal? op 2))
+      (λ (l : o < 64).
+      let lock : object σ e < locks = omega arith in
+      rw (lt-leb 64 o l, isStart-lock σ e (q .1) lock, isJoin-lock σ e (q .1) lock)) (at-most? 64 o)
+
+-- What is neither is no start.
+pub neither : (σ : Trace) (e : ℕ) → (isStart σ e || isJoin σ e) ≡ false → T (isStart σ e) → ⊥
+neither σ e n s = rw n at (or-l (isStart σ e) (isJoin σ e) s)
+
+-- Before event 1 nothing is done.
+pub done-start : (σ : Trace)
+    → Done σ 1 (replicate locks 0) (replicate locks 1) (replicate variables 0) (replicate tasks 0)
+    (replicate tasks 0)
+done-start σ = record {
+  holder = holders-start;
+  writes-long = length-replicate {A = ℕ} variables 0;
+  written = latest-start (isWrite σ) (object σ) variables;
+  starts-long = length-replicate {A = ℕ} tasks 0;
+  started = latest-start (isStart σ) (target σ) tasks;
+  joins-long = length-replicate {A = ℕ} tasks 0;
+  joined = latest-start (isJoin σ) (target σ) tasks;
 }
 
-module _ (b : List ℕ) (e : ℕ) {holders depths writes latest starts joins : List ℕ}
-    (z : Asked (decodeAll b) e holders depths writes latest starts joins) where
+-- The check begins without a start or a join.
+pub plain-start : {σ : Trace} {holders depths writes starts joins : List ℕ}
+    → Done σ 1 holders depths writes starts joins → Plain σ 1 holders depths writes starts joins
+plain-start z = record {
+  faultless = λ f a b. absurd (omega arith);
+  unjoined = λ f a b. absurd (omega arith);
+  done = z;
+}
+
+module _ {σ : Trace} {e : ℕ} {holders depths writes starts joins : List ℕ}
+    (z : Plain σ e holders depths writes starts joins) where
+  -- While no task was joined, none is over: the refusal is the event's.
+  pub plain-fault : {r : ℕ} → fault σ e ≡ cond (eqb r 0) (cond (isOver σ e) 16 0) r → r ≡ fault σ e
+  plain-fault {r} q =
+      let on : isOver σ e ≡ false = is-false (isOver σ e) (not-T (isOver σ e) (λ t.
+      let (f, h, k, j) = isOver-iff σ e .0 t in
+      rw (z .unjoined f h k) at (joins-iff σ (task σ e) f .0 j .0))) in
+      sym (q ∙ rw on (⊎-elim (λ (n : r ≡ 0). rw n) (λ d. rw (ne-eqb r 0 d)) (equal? r 0)))
+
+  -- An event that is neither and has no fault leaves it so.
+  pub plain-next : {hs ds ws ss js : List ℕ} → fault σ e ≡ 0 → (isStart σ e || isJoin σ e) ≡ false
+      → Done σ (e + 1) hs ds ws ss js → Plain σ (e + 1) hs ds ws ss js
+  plain-next none n done = record {
+    faultless = λ f a b. ⊎-elim (λ (s : f ≡ e). rw s none) (λ d. z .faultless f a (omega arith)) (equal? f e);
+    unjoined = λ f a b. ⊎-elim (λ (s : f ≡ e). rw s join) (λ d. z .unjoined f a (omega arith)) (equal? f e);
+    done = done;
+  }
+    where
+      join : isJoin σ e ≡ false
+      join = is-false (isJoin σ e) (not-T (isJoin σ e) (λ j.
+          rw n at (or-r (isStart σ e) (isJoin σ e) j)))
+
+  -- With the latest events it goes on with both.
+  pub plain-asked : {latest : List ℕ} → length latest ≡ tasks → LatestEvents (λ f. true) (task σ) e latest
+      → Asked σ e holders depths writes latest starts joins
+  plain-asked long events = record {
+    faultless = z .faultless;
+    done = z .done;
+    latest-long = long;
+    events = events;
+  }
+
+-- One event more is the latest of its task.
+pub latest-next : (σ : Trace) {f t : ℕ} {latest : List ℕ} → (t < tasks) × (t ≡ task σ f)
+    → length latest ≡ tasks → LatestEvents (λ g. true) (task σ) f latest
+    → LatestEvents (λ g. true) (task σ) (f + 1) (set latest t f)
+latest-next σ {f} {t} {latest} (small, q) long z =
+    rw (add-one f, q) (latest-set (λ g. true) (task σ) f latest z tt (omega arith))
+
+-- ---- all events
+
+module _ (b : List ℕ) (e : ℕ) (faultless : (f : ℕ) → 1 ≤ f → f < e → fault (decodeAll b) f ≡ 0) where
   -- A refusal at event e decides.
   pub asked-refused : (r : ℕ) → 1 ≤ e → e ≤ length b / 2 → r ≡ fault (decodeAll b) e → r ≢ 0
       → outcome r e ≡ checkEvents (decodeAll b)
   asked-refused r h k q d =
-      rw q (sym (checkEvents-fault (decodeAll b) e h (omega (arith, decodeAll-length b)) (z .faultless)
+      rw q (sym (checkEvents-fault (decodeAll b) e h (omega (arith, decodeAll-length b)) faultless
       (λ n. d (q ∙ n))))
 
   -- After the last event nothing is refused.
   pub asked-passed : length b / 2 < e → outcome 0 0 ≡ checkEvents (decodeAll b)
   asked-passed k =
-      sym (checkEvents-none (decodeAll b) (λ f i j. z .faultless f i (omega (arith, decodeAll-length b))))
+      sym (checkEvents-none (decodeAll b) (λ f i j. faultless f i (omega (arith, decodeAll-length b))))

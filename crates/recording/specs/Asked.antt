@@ -2,7 +2,7 @@
 -- questions about it ask for.
 use Prim.Native.Nat.{ℕ, _≤_, _<_}
 use mathlib.Core.Path.{_≡_}
-use mathlib.Core.Bool.{true}
+use mathlib.Core.Bool.{true, false}
 use mathlib.Core.List.{List}
 use lib.ListN.{length}
 use Rattle.model.specs.Trace.{Trace, tasks, variables, task, object, isWrite}
@@ -20,6 +20,12 @@ pub record Done (σ : Trace) (e : ℕ) (holders depths writes starts joins : Lis
   pub started : LatestEvents (isStart σ) (target σ) e starts
   pub joins-long : length joins ≡ tasks
   pub joined : LatestEvents (isJoin σ) (target σ) e joins
+
+-- The check has come to event e without a start or a join.
+pub record Plain (σ : Trace) (e : ℕ) (holders depths writes starts joins : List ℕ) : Type 0 where
+  pub faultless : (f : ℕ) → 1 ≤ f → f < e → fault σ f ≡ 0
+  pub unjoined : (f : ℕ) → 1 ≤ f → f < e → isJoin σ f ≡ false
+  pub done : Done σ e holders depths writes starts joins
 
 -- The check has come to event e: these tables, and the latest event of each task.
 pub record Asked (σ : Trace) (e : ℕ) (holders depths writes latest starts joins : List ℕ) : Type 0 where

@@ -1,10 +1,11 @@
 // Recordings: the events of one, unpacked from its records, and the check of questions 1 to 7, 15 and 16.
 // `records` is the part of a recording after its header of two bytes, wherever it stands.
-ghost use Prim.Native.Nat.{_+_, _*_, _-_, _<_, _≤_};
+ghost use Prim.Native.Nat.{_+_, _*_, _-_, _/_, _<_, _≤_};
 ghost use mathlib.Core.Path.{_≡_};
-ghost use mathlib.Core.Bool.{true, cond};
+ghost use mathlib.Core.Bool.{true, cond, _||_};
+ghost use mathlib.Core.Logic.{_≢_};
 ghost use lib.Dec.{T, eqb};
-ghost use lib.ListN.{length, getD};
+ghost use lib.ListN.{length, getD, replicate};
 ghost use lib.Seq.{sets};
 ghost use Rattle.model.specs.Lists.{hasBit};
 ghost use Rattle.model.specs.Bytes.{numbers, twoBytes};
@@ -16,7 +17,7 @@ ghost use Rattle.model.specs.WellFormed.{isFree, isNew, isOver, fault};
 ghost use Rattle.model.specs.Calls.Check.{checkEvents, check};
 ghost use Rattle.laws.specs.Sizes.{recordsLength, tableLength};
 ghost use Rattle.laws.specs.Walked.{Holders, LatestEvents};
-ghost use Rattle.recording.specs.Asked.{Done, Asked};
+ghost use Rattle.recording.specs.Asked.{Done, Plain, Asked};
 use model::Outcome;
 
 // The number at place i of bytes that are numbers of two bytes, the high byte first.
@@ -176,7 +177,7 @@ fn join(records: &[u8], e: usize, t: u8, u: usize, joins: &mut [u16]) -> u64
 
 // Puts questions 4 to 7 and 15, and of 16 whether a task joins itself, to event e of task t, with what
 // earlier events have done: the number of the first "no", or 0, and then the tables have what this one does
-// too.
+// too. The latest event of each task is asked for by a start alone.
 fn ask_object(
     records: &[u8],
     e: usize,
@@ -190,8 +191,9 @@ fn ask_object(
 ) -> u64
     requires { ⌜ (1 ≤ e) × (2 * e ≤ length (now records)) × (e < tableLength)
         × (t < tasks) × (t ≡ task (decodeAll (now records)) e)
-        × Asked (decodeAll (now records)) e (now holders) (now depths) (now writes) (now latest) (now starts)
-        (now joins) ⌝ }
+        × Done (decodeAll (now records)) e (now holders) (now depths) (now writes) (now starts) (now joins)
+        × (length (now latest) ≡ tasks) × (T (isStart (decodeAll (now records)) e)
+        → LatestEvents (λ f. true) (task (decodeAll (now records))) e (now latest)) ⌝ }
     ensures { λ r. ⌜ (fault (decodeAll (now (records .entry))) e
         ≡ cond (eqb r 0) (cond (isOver (decodeAll (now (records .entry))) e) 16 0) r)
         × (r ≡ 0 → Done (decodeAll (now (records .entry))) (e + 1) (now (holders .exit)) (now (depths .exit))
@@ -267,28 +269,113 @@ fn ask(
     0
 }
 
-// Puts questions 4 to 7, 15 and 16 event by event: the earliest event with a "no" decides.
-fn check_events(records: &[u8]) -> Outcome
-    requires { ⌜ length (now records) ≤ recordsLength ⌝ }
+// Whether event e is a start or a join.
+fn forks(records: &[u8], e: usize) -> bool
+    requires { ⌜ (1 ≤ e) × (2 * e ≤ length (now records)) ⌝ }
+    ensures { λ r. ⌜ r ≡ (isStart (decodeAll (now (records .entry))) e
+        || isJoin (decodeAll (now (records .entry))) e) ⌝ }
+{
+    if operation(records, e) < 2 {
+        return false;
+    }
+    64 <= object(records, e)
+}
+
+// Puts the questions to the events before the first start or join, of which no task is over: a refusal, or 0
+// with that event, or with the number after the last one. The tables stand before it then.
+fn check_plain(
+    records: &[u8],
+    holders: &mut [u8],
+    depths: &mut [u16],
+    writes: &mut [u16],
+    starts: &mut [u16],
+    joins: &mut [u16],
+) -> Outcome
+    requires { ⌜ (length (now records) ≤ recordsLength)
+        × Done (decodeAll (now records)) 1 (now holders) (now depths) (now writes) (now starts) (now joins) ⌝ }
+    ensures { λ r. ⌜ (r .refusal ≢ 0 → r ≡ checkEvents (decodeAll (now (records .entry))))
+        × (r .refusal ≡ 0 → (1 ≤ r .event) × (r .event ≤ length (now (records .entry)) / 2 + 1)
+        × Plain (decodeAll (now (records .entry))) (r .event) (now (holders .exit)) (now (depths .exit))
+        (now (writes .exit)) (now (starts .exit)) (now (joins .exit))) ⌝ }
+{
+    let latest = [0u16; 16];
+    let mut e = 1;
+    while e <= records.len() / 2 {
+        if forks(records, e) {
+            return Outcome {
+                refusal: 0,
+                event: e as u64,
+            };
+        }
+        let t = task(records, e);
+        let refusal = ask_object(
+            records,
+            e,
+            t,
+            holders,
+            depths,
+            writes,
+            &latest,
+            starts,
+            joins,
+        );
+        if refusal != 0 {
+            return Outcome {
+                refusal,
+                event: e as u64,
+            };
+        }
+        e = e + 1;
+    }
+    Outcome {
+        refusal: 0,
+        event: e as u64,
+    }
+}
+
+// Notes the latest event of each task before event e in a clear table.
+fn note_latest(records: &[u8], e: usize, latest: &mut [u16])
+    requires { ⌜ (1 ≤ e) × (2 * e ≤ length (now records) + 2) × (length (now records) ≤ recordsLength)
+        × (now latest ≡ replicate tasks 0) ⌝ }
+    ensures { λ r. ⌜ LatestEvents (λ f. true) (task (decodeAll (now (records .entry)))) e
+        (now (latest .exit)) ⌝ }
+{
+    let mut f = 1;
+    while f < e {
+        latest[task(records, f) as usize] = f as u16;
+        f = f + 1;
+    }
+}
+
+// Puts the questions to the events from event `from` on, which a start or a join may be among: the earliest
+// event with a "no" decides.
+fn check_forked(
+    records: &[u8],
+    from: usize,
+    holders: &mut [u8],
+    depths: &mut [u16],
+    writes: &mut [u16],
+    starts: &mut [u16],
+    joins: &mut [u16],
+) -> Outcome
+    requires { ⌜ (length (now records) ≤ recordsLength) × (1 ≤ from) × (from ≤ length (now records) / 2 + 1)
+        × Plain (decodeAll (now records)) from (now holders) (now depths) (now writes) (now starts)
+        (now joins) ⌝ }
     ensures { λ r. ⌜ r ≡ checkEvents (decodeAll (now (records .entry))) ⌝ }
 {
-    let mut holders = [0u8; 64];
-    let mut depths = [1u16; 64];
-    let mut writes = [0u16; 1024];
     let mut latest = [0u16; 16];
-    let mut starts = [0u16; 16];
-    let mut joins = [0u16; 16];
-    let mut e = 1;
+    note_latest(records, from, &mut latest);
+    let mut e = from;
     while e <= records.len() / 2 {
         let refusal = ask(
             records,
             e,
-            &mut holders,
-            &mut depths,
-            &mut writes,
+            holders,
+            depths,
+            writes,
             &mut latest,
-            &mut starts,
-            &mut joins,
+            starts,
+            joins,
         );
         if refusal != 0 {
             return Outcome {
@@ -302,6 +389,46 @@ fn check_events(records: &[u8]) -> Outcome
         refusal: 0,
         event: 0,
     }
+}
+
+// Puts questions 4 to 7, 15 and 16 event by event: the earliest event with a "no" decides. The latest event
+// of each task is kept from the first start or join on.
+fn check_events(records: &[u8]) -> Outcome
+    requires { ⌜ length (now records) ≤ recordsLength ⌝ }
+    ensures { λ r. ⌜ r ≡ checkEvents (decodeAll (now (records .entry))) ⌝ }
+{
+    let mut holders = [0u8; 64];
+    let mut depths = [1u16; 64];
+    let mut writes = [0u16; 1024];
+    let mut starts = [0u16; 16];
+    let mut joins = [0u16; 16];
+    let plain = check_plain(
+        records,
+        &mut holders,
+        &mut depths,
+        &mut writes,
+        &mut starts,
+        &mut joins,
+    );
+    if plain.refusal != 0 {
+        return plain;
+    }
+    let from = plain.event as usize;
+    if records.len() / 2 < from {
+        return Outcome {
+            refusal: 0,
+            event: 0,
+        };
+    }
+    check_forked(
+        records,
+        from,
+        &mut holders,
+        &mut depths,
+        &mut writes,
+        &mut starts,
+        &mut joins,
+    )
 }
 
 // The event count that the header gives, in the low 12 bits.

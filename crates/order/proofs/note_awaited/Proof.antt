@@ -25,7 +25,8 @@ same-length c = search needs
 returns : tie.Need-returns
 returns c =
     let s = start (c .before .before) in
-    uncounted-noted _ _ (s .pre .4) (s .pre .10) (s .pre .12) (s .pre .11) (search needs) (c .before .if1 .taken)
+    uncounted-noted _ _ (s .pre .4) (s .pre .10) (s .pre .12) (s .pre .11) (search needs)
+    (c .before .if1 .taken)
     (c .joined-of .ensures)
 
 object-requires : tie.Need-object-requires

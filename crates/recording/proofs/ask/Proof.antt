@@ -38,7 +38,18 @@ slice-read-over : tie.Need-slice-read-over
 slice-read-over c = search needs
 
 ask-object-requires : tie.Need-ask-object-requires
-ask-object-requires c κs = search needs
+ask-object-requires c κs =
+    let z = c .before .before .before .before .before .before .before .before .before .before .before
+    .before .before .before .before .pre .3 in (
+      search needs,
+      search needs,
+      search needs,
+      search needs,
+      search needs,
+      z .done,
+      z .latest-long,
+      λ _. z .events,
+    )
 
 same-length : tie.Need-same-length
 same-length c = search needs

@@ -12,19 +12,22 @@ entry c =
 
 -- from the locks to the record,
 abbrev noted-record : tie.After-note-locks → tie.After-note-record
-noted-record c = c .before .before .before .before .before .before .before .before .before .before .before .before
+noted-record c =
+    c .before .before .before .before .before .before .before .before .before .before .before .before
 
 -- and from the order to the locks.
 abbrev noted-locks : tie.After-note-order → tie.After-note-locks
 noted-locks c =
-    c .before .before .before .before .before .before .before .before .before .before .before .before .before .before .before
+    c .before .before .before .before .before .before .before .before .before .before .before .before
+    .before .before .before
 
 note-record-requires : tie.Need-note-record-requires
 note-record-requires c κs = search needs
 
 note-locks-requires : tie.Need-note-locks-requires
 note-locks-requires c κs =
-    let s = entry (c .before .before .before .before .before .before .before .before .before .before .before) in
+    let s = entry (c .before .before .before .before .before .before .before .before .before .before
+    .before) in
     let z = s .pre .4 in (
       s .pre .0,
       s .pre .1,
@@ -42,7 +45,8 @@ note-locks-requires c κs =
 
 note-order-requires : tie.Need-note-order-requires
 note-order-requires c κs =
-    let locks = c .before .before .before .before .before .before .before .before .before .before .before .before .before .before in
+    let locks = c .before .before .before .before .before .before .before .before .before .before
+    .before .before .before .before in
     let s = entry (noted-record locks) in
     let z = s .pre .4 in (
       s .pre .0,

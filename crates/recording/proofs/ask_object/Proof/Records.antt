@@ -22,12 +22,12 @@ start-requires c κs =
       s .4,
       omega (arith, outside, k .if4 .left),
       target-is u outside (k .if4 .left) (unwritten k),
-      s .5 .latest-long,
-      s .5 .events,
-      s .5 .done .starts-long,
-      s .5 .done .started,
-      s .5 .done .joins-long,
-      s .5 .done .joined,
+      s .6,
+      s .7 (rw is-start tt),
+      s .5 .starts-long,
+      s .5 .started,
+      s .5 .joins-long,
+      s .5 .joined,
     )
 
 pub same-length-2 : tie.Need-same-length-2
@@ -56,8 +56,8 @@ join-requires c κs =
       s .4,
       omega (arith, outside, k .if4 .left),
       target-is u outside (k .if4 .left) (unwritten k),
-      s .5 .done .joins-long,
-      s .5 .done .joined,
+      s .5 .joins-long,
+      s .5 .joined,
     )
 
 pub same-length-4 : tie.Need-same-length-4
@@ -78,7 +78,7 @@ enter-requires c κs =
     let inside = c .before .before .before .if5 .left in
     let entered = enters-is _ _ (u .op-is .1) (omega (arith, inside, u .object-is))
     (c .before .before .if7 .taken) in
-    (s .0, s .2, entered, s .3, s .4, inside, u .object-is .1, s .5 .done .holder)
+    (s .0, s .2, entered, s .3, s .4, inside, u .object-is .1, s .5 .holder)
 
 pub same-length-5 : tie.Need-same-length-5
 same-length-5 c = search needs
@@ -102,7 +102,7 @@ leave-requires c κs =
     let inside = c .before .before .before .if5 .left in
     let left = leaves-is _ _ (u .op-is .1) (omega (arith, inside, u .object-is)) (release k
     (c .before .before .if7 .left)) in
-    (left, s .3, s .4, inside, u .object-is .1, s .5 .done .holder)
+    (left, s .3, s .4, inside, u .object-is .1, s .5 .holder)
 
 pub same-length-7 : tie.Need-same-length-7
 same-length-7 c = search needs

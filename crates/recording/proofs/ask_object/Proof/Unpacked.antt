@@ -20,7 +20,7 @@ pub unpacked : (c : tie.After-object)
 unpacked c = record {
   op-is = c .before .operation .ensures;
   object-is = c .object .ensures;
-  done = start c .pre .5 .done;
+  done = start c .pre .5;
 }
 
 -- An acquire or a release record whose object is small: from where that is known back to the unpacking.
