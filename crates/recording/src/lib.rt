@@ -248,7 +248,7 @@ fn ask(
 {
     let t = task(records, e);
     let over = joins[t as usize];
-    let refusal = ask_object(
+    let answer = ask_object(
         records,
         e,
         t,
@@ -259,8 +259,8 @@ fn ask(
         starts,
         joins,
     );
-    if refusal != 0 {
-        return refusal;
+    if answer != 0 {
+        return answer;
     }
     if over != 0 {
         return 16;
@@ -292,7 +292,8 @@ fn check_plain(
     joins: &mut [u16],
 ) -> Outcome
     requires { ⌜ (length (now records) ≤ recordsLength)
-        × Done (decodeAll (now records)) 1 (now holders) (now depths) (now writes) (now starts) (now joins) ⌝ }
+        × Done (decodeAll (now records)) 1 (now holders) (now depths) (now writes) (now starts)
+        (now joins) ⌝ }
     ensures { λ r. ⌜ (r .refusal ≢ 0 → r ≡ checkEvents (decodeAll (now (records .entry))))
         × (r .refusal ≡ 0 → (1 ≤ r .event) × (r .event ≤ length (now (records .entry)) / 2 + 1)
         × Plain (decodeAll (now (records .entry))) (r .event) (now (holders .exit)) (now (depths .exit))

@@ -111,13 +111,13 @@ fn tower(acquires: usize, releases: usize) -> String {
 }
 
 /// Whether these are the matches of all events in turn.
-fn matches(recording: &[u8], expected: &[usize]) -> bool {
+pub fn matches(recording: &[u8], expected: &[usize]) -> bool {
     let found = (1..=expected.len()).map(|event| relations(recording, event as u64).map(|x| x.matching));
     found.eq(expected.iter().map(|&event| Ok(event)))
 }
 
 /// Whether these are the masks of the held locks of all events in turn.
-fn holds(recording: &[u8], expected: &[u64]) -> bool {
+pub fn holds(recording: &[u8], expected: &[u64]) -> bool {
     let found = (1..=expected.len()).map(|event| relations(recording, event as u64).map(|x| x.held));
     found.eq(expected.iter().map(|&mask| Ok(mask)))
 }

@@ -2,7 +2,7 @@
 
 use crate::recording::{Recording, LOCKS};
 
-/// A set of events that satisfies the closure's two rules.
+/// A set of events that satisfies the closure's rules.
 #[derive(Clone)]
 pub struct Closure<'a> {
     recording: &'a Recording,
@@ -13,7 +13,7 @@ pub struct Closure<'a> {
 }
 
 impl<'a> Closure<'a> {
-    /// The empty set, which satisfies both rules of 01: "The closure of an event set is the
+    /// The empty set, which satisfies all rules of 01: "The closure of an event set is the
     /// smallest set that contains it and satisfies".
     pub fn empty(recording: &'a Recording) -> Closure<'a> {
         let member = vec![false; recording.count() + 1];
@@ -32,8 +32,9 @@ impl<'a> Closure<'a> {
     /// Adds an event and, until nothing changes, all that 01 demands: "with an event, it has that
     /// event's predecessor and writer, where not 0; with two acquires of one lock, it has the match
     /// of the earlier one"; 02, job 9: "Only the acquire from depth 0 [counts as acquire] in closure",
-    /// and inner events "follow task order only". Stops with false as soon as an avoided event would be
-    /// added.
+    /// and inner events "follow task order only"; job 1: "A joined task's last event, or its start if it has
+    /// no event, also belongs to any closure holding the join." Stops with false as soon as an avoided event
+    /// would be added.
     pub fn add(&mut self, event: usize, avoided: &[usize]) -> bool {
         let mut waiting = vec![event];
         while let Some(next) = waiting.pop() {
@@ -47,6 +48,7 @@ impl<'a> Closure<'a> {
             let relations = self.recording.relations(next);
             waiting.push(relations.predecessor);
             waiting.push(relations.writer);
+            waiting.push(relations.awaited);
             if self.recording.is_outer_acquire(next) {
                 waiting.push(self.match_demanded_by(next));
             }
@@ -96,16 +98,26 @@ fn top_bit_moved(event: usize) -> u8 {
 mod tests {
     use super::*;
     use crate::random::Random;
-    use crate::recording::encode;
+    use crate::recording::{encode, Operation};
     use crate::shapes::{any_events, Class};
 
-    /// The two rules as 01 words them, over outer acquires, applied until nothing changes.
+    /// "A joined task's last event, or its start if it has no event", for a join.
+    fn end_of_joined(recording: &Recording, join: usize) -> Option<usize> {
+        let joined = recording.event(join).object;
+        let last = (1..=recording.count()).rfind(|&e| recording.event(e).task == joined);
+        last.or(recording.fork_of(joined))
+    }
+
+    /// The rules as 01 and 02 word them, over outer acquires, applied until nothing changes.
     fn by_the_words(recording: &Recording, start: &[usize]) -> Vec<usize> {
         let mut set = start.to_vec();
         loop {
             let mut wanted = Vec::new();
             for &e in &set {
                 wanted.extend([recording.relations(e).predecessor, recording.relations(e).writer]);
+                if recording.event(e).operation == Operation::Join {
+                    wanted.extend(end_of_joined(recording, e));
+                }
                 for &f in set.iter().filter(|&&f| e < f) {
                     let both = recording.is_outer_acquire(e) && recording.is_outer_acquire(f);
                     if both && recording.event(e).object == recording.event(f).object {
@@ -125,13 +137,17 @@ mod tests {
     #[test]
     fn worklist_gives_the_smallest_set() {
         let random = &mut Random::new(7);
-        for _ in 0..300 {
+        let mut with_joins = 0;
+        for _ in 0..600 {
             let recording = Recording::read(&encode(&any_events(random, Class::Small))).ok().unwrap();
             let count = recording.count();
             let mut start: Vec<usize> = (0..count.min(3)).map(|_| random.between(1, count)).collect();
             start.sort();
             start.dedup();
-            assert_eq!(Closure::of(&recording, &start).events(), by_the_words(&recording, &start));
+            let closed = Closure::of(&recording, &start).events();
+            assert_eq!(closed, by_the_words(&recording, &start));
+            with_joins += usize::from(closed.iter().any(|&e| recording.relations(e).awaited != 0));
         }
+        assert!(with_joins > 50);
     }
 }

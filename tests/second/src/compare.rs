@@ -1,20 +1,22 @@
 //! The comparison of another implementation's answers with this one's.
 
+use crate::lifetimes::Lifetimes;
 use crate::protocol::{answer, entries_of, held_of_all, Answer, BAD_REQUEST, CALLS};
 use crate::reentry::Reentry;
 
 /// What was compared: requests by call, answers by refusal number, loads at a half, listings with size 0,
-/// locks taken again, and differences.
+/// locks taken again, starts and joins, and differences.
 #[derive(Default)]
 pub struct Summary {
     calls: [u64; CALLS.len()],
-    refusals: [u64; 15],
+    refusals: [u64; 17],
     bad_requests: u64,
     /// Loads at a half above an even whole per cent, and above an odd one.
     halves: [u64; 2],
     /// Accepted listings with size 0, by the size of the largest entry, which is 0 where there is none.
     largest_entries: [u64; 17],
     reentry: Reentry,
+    lifetimes: Lifetimes,
     compared: u64,
     differ: u64,
 }
@@ -51,6 +53,7 @@ impl Summary {
             self.largest_entries[largest.unwrap_or(0)] += 1;
         }
         self.reentry.count(request, own);
+        self.lifetimes.count(request, own);
     }
 
     /// Counts a load whose 100 × h / n is exactly a half above a whole per cent.
@@ -80,13 +83,14 @@ impl Summary {
              of three to fifteen events {more}, of sixteen events {sixteen}"
         );
         format!(
-            "requests: {}\nrefusals: {}\nbad requests: {}\n{}\n{}\n{}\n{} compared, {} differ",
+            "requests: {}\nrefusals: {}\nbad requests: {}\n{}\n{}\n{}\n{}\n{} compared, {} differ",
             calls.collect::<Vec<_>>().join(", "),
             refusals.collect::<Vec<_>>().join(", "),
             self.bad_requests,
             halves,
             listings,
             self.reentry.text(),
+            self.lifetimes.text(),
             self.compared,
             self.differ
         )
@@ -121,6 +125,23 @@ mod tests {
             assert_eq!(summary.compare(request, line), None);
         }
         assert_eq!(summary.halves, [1, 1]);
+    }
+
+    #[test]
+    fn refusals_are_counted() {
+        let mut summary = Summary::default();
+        let answered = [
+            ("check 10018040", "15 1"),
+            ("relations 1001c040 1", "16 1 0 0 0 0 0"),
+            ("clist 1001c040 1 -", "2097155 -"),
+            ("check 10018050", "4 1"),
+            ("check 10018041", "0 0"),
+        ];
+        for (request, line) in answered {
+            assert_eq!(summary.compare(request, line), None);
+        }
+        assert_eq!((summary.refusals[15], summary.refusals[16]), (1, 2));
+        assert_eq!((summary.refusals[0], summary.refusals[4]), (1, 1));
     }
 
     #[test]

@@ -1,4 +1,4 @@
-//! Damage to a recording: to its locks, and to its bytes.
+//! Damage to a recording: to its locks, and to its bytes; to its starts and joins it is in `misuse`.
 
 use crate::locks::outer_events;
 use crate::random::Random;
@@ -59,7 +59,7 @@ fn replace_events(random: &mut Random, bytes: &mut [u8]) {
     let count = bytes.len() / 2 - 1;
     for _ in 0..random.between(1, 3).min(count) {
         let at = 2 + 2 * random.below(count);
-        let objects = random.pick(&[3, 6, 64, 64, 70, VARIABLES]);
+        let objects = random.pick(&[3, 6, 64, 80, 84, VARIABLES]);
         let event = Event::unpack(random.below(65_536) & !1023 | random.below(objects));
         bytes[at..at + 2].copy_from_slice(&(event.pack() as u16).to_be_bytes());
     }

@@ -1,9 +1,11 @@
 //! Random requests over all calls, recordings, arguments and refusals.
 
-use crate::arguments::{changed_pattern, event, false_pattern, lock, pattern_with_verdict, room, set, size};
+use crate::arguments::{event, lock, room, set, size};
 use crate::calls::{self, Listed};
 use crate::damage::{damage, misuse_lock};
+use crate::lent_patterns::{changed_pattern, false_pattern, pattern_with_verdict};
 use crate::loads::{event_count, events_with_load, held_count};
+use crate::misuse::misuse_task;
 use crate::patterns::closure_of_predecessors;
 use crate::proposals::schedule;
 use crate::protocol::hexadecimal;
@@ -62,15 +64,17 @@ fn scene(random: &mut Random, class: Class, damaged: usize) -> Scene {
 }
 
 /// The recording of these events, in so many per cent of the cases damaged once or more, and in half as many
-/// more with a lock misused.
+/// more each with a lock or a task misused.
 fn scene_of(random: &mut Random, events: &[Event], damaged: usize) -> Scene {
     let bytes = encode(events);
     let recording = Recording::read(&bytes).unwrap_or_else(|refusal| panic!("ill-formed: {refusal:?}"));
     let mut sent = bytes.clone();
-    if random.chance(damaged / 2) {
-        let mut misused = events.to_vec();
-        misuse_lock(random, &mut misused);
-        sent = encode(&misused);
+    for misuse in [misuse_lock, misuse_task] {
+        if random.chance(damaged / 2) {
+            let mut misused = events.to_vec();
+            misuse(random, &mut misused);
+            sent = encode(&misused);
+        }
     }
     while random.chance(damaged) {
         damage(random, &mut sent);

@@ -1,8 +1,9 @@
 //! Random recordings and numbers for a load.
 
 use crate::random::Random;
-use crate::recording::Event;
-use crate::shapes::{any_walk, step, Builder};
+use crate::recording::{Event, TASKS};
+use crate::styles::{any_walk, step, Builder};
+use crate::tasks::Tasks;
 
 /// A number n of events for a load, mostly one that has exact halves, which are at multiples of 8 only.
 pub fn event_count(random: &mut Random) -> usize {
@@ -28,13 +29,15 @@ pub fn held_count(random: &mut Random, n: usize) -> usize {
 }
 
 /// A recording of n events of which h leave this lock held, at depth 1 or deeper, by one task or another,
-/// while tasks walk with the other locks.
+/// while tasks walk with the other locks, and at times start and join others.
 pub fn events_with_load(random: &mut Random, lock: usize, h: usize, n: usize) -> Vec<Event> {
     let walk = any_walk(random, n);
     let mut builder = Builder::new();
     let mut others: Vec<Vec<usize>> = vec![Vec::new(); walk.tasks];
     let (mut task, mut holder, mut depth) = (0, 0, 0);
     let again = random.pick(&[0, 0, 20, 70, 98]);
+    let forks = random.pick(&[0, 0, 5, 30]);
+    let mut tasks = Tasks::without_events();
     for (held, held_next) in held_after(random, h, n) {
         if !random.chance(walk.stay) {
             task = random.below(walk.tasks);
@@ -51,11 +54,25 @@ pub fn events_with_load(random: &mut Random, lock: usize, h: usize, n: usize) ->
                 depth = next;
                 Event::release(holder, lock)
             }
-            _ => step(random, &walk, task, &mut others[task], &builder),
+            _ => {
+                let forked =
+                    fork_or_join(random, task, walk.tasks).filter(|&event| tasks.first_no(event).is_none());
+                let chosen = forked.filter(|_| random.chance(forks));
+                chosen.unwrap_or_else(|| step(random, &walk, task, &mut others[task], &builder))
+            }
         };
         builder.take(event);
+        tasks.pass(event);
     }
     builder.events
+}
+
+/// A start of any task, or a join of one beyond those that walk, if there is any.
+fn fork_or_join(random: &mut Random, task: usize, walking: usize) -> Option<Event> {
+    if random.chance(50) {
+        return Some(Event::fork(task, random.below(TASKS)));
+    }
+    (walking < TASKS).then(|| Event::join(task, random.between(walking, TASKS - 1)))
 }
 
 /// The depth of the lock after the next event, where it is held or not after that one and then after so many
@@ -99,11 +116,14 @@ mod tests {
     #[test]
     fn loads_are_as_chosen() {
         let mut random = Random::new(1);
+        let mut forks_and_joins = 0;
         for (h, n) in [(0, 0), (0, 1), (1, 1), (1, 8), (7, 8), (8, 8), (27, 200), (4094, 4095)] {
             for _ in 0..10 {
-                let recording = encode(&events_with_load(&mut random, 63, h, n));
-                assert_eq!(held_of_all(&recording, 63), Ok((h as u64, n as u64)));
+                let events = events_with_load(&mut random, 63, h, n);
+                assert_eq!(held_of_all(&encode(&events), 63), Ok((h as u64, n as u64)));
+                forks_and_joins += events.iter().filter(|event| event.names_task()).count();
             }
         }
+        assert!(forks_and_joins > 50);
     }
 }

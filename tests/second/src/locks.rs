@@ -44,7 +44,7 @@ impl Locks {
                 self.0[event.object] = Record { holder: event.task, depth };
             }
             Operation::Release => self.0[event.object].depth -= 1,
-            Operation::Read | Operation::Write => {}
+            Operation::Read | Operation::Write | Operation::Fork | Operation::Join => {}
         }
     }
 
@@ -53,7 +53,7 @@ impl Locks {
         match event.operation {
             Operation::Acquire => self.depth(event.object) == 0,
             Operation::Release => self.depth(event.object) == 1,
-            Operation::Read | Operation::Write => false,
+            Operation::Read | Operation::Write | Operation::Fork | Operation::Join => false,
         }
     }
 }

@@ -192,7 +192,8 @@ mod tests {
     use crate::recording::encode;
     use crate::shapes::{any_events, Class};
 
-    /// Every list of up to so many acquires, in order, that is a pattern; inner acquires are tried too.
+    /// Every list of up to so many acquires, in order, that is a pattern; inner acquires, starts and joins
+    /// are tried too.
     fn by_the_words(
         recording: &Recording,
         largest: usize,
@@ -203,7 +204,8 @@ mod tests {
             found.push(list.clone());
         }
         if list.len() < largest {
-            for event in (1..=recording.count()).filter(|&e| recording.is_acquire(e)) {
+            let is_tried = |&e: &usize| recording.is_acquire(e) || recording.event(e).names_task();
+            for event in (1..=recording.count()).filter(is_tried) {
                 list.push(event);
                 by_the_words(recording, largest, list, found);
                 list.pop();

@@ -1,6 +1,7 @@
 //! Proposed schedules for a pattern: good ones, and ones that break a rule of 01.
 
 use crate::closure::Closure;
+use crate::forked_proposals::{has_task_events, spoil_or_extend};
 use crate::locks::Locks;
 use crate::patterns::closure_of_predecessors;
 use crate::random::Random;
@@ -9,7 +10,9 @@ use crate::recording::{bytes_from, Recording, LOCKS, TASKS};
 /// The bytes of a schedule: the events that come before the pattern, in some order, at times spoilt.
 pub fn schedule(random: &mut Random, pattern: &[usize], recording: &Recording) -> Vec<u8> {
     let mut list = closure_of_predecessors(recording, pattern).events();
+    let forked = has_task_events(recording) && random.chance(75);
     match random.below(32) {
+        _ if forked => spoil_or_extend(random, &mut list, pattern, recording),
         0..=2 => {}
         3..=5 => swap_neighbours(random, &mut list, recording),
         6..=8 => list = merged_again(random, &list, recording),
@@ -47,16 +50,23 @@ fn swap_neighbours(random: &mut Random, list: &mut [usize], recording: &Recordin
     }
 }
 
-/// The same events, each task's in order, in other turns, and acquires where no other task has their locks.
-fn merged_again(random: &mut Random, list: &[usize], recording: &Recording) -> Vec<usize> {
+/// The same events, each task's in order, in other turns, acquires where no other task has their locks, and
+/// starts and joins where their tasks' events let them stand.
+pub fn merged_again(random: &mut Random, list: &[usize], recording: &Recording) -> Vec<usize> {
     let of_task = |task: usize| list.iter().rev().copied().filter(move |&e| recording.event(e).task == task);
     let mut waiting: Vec<Vec<usize>> = (0..TASKS).map(|task| of_task(task).collect()).collect();
     let mut locks = Locks::all_free();
     let mut merged = Vec::new();
+    let mut missing = vec![false; recording.count() + 1];
+    list.iter().for_each(|&event| missing[event] = true);
     loop {
         let is_blocked =
             |e: usize| locks.is_held_by_another(recording.event(e).object, recording.event(e).task);
-        let can_be_next = |&e: &usize| !recording.is_acquire(e) || !is_blocked(e);
+        let is_early = |e: usize| {
+            let relations = recording.relations(e);
+            missing[relations.predecessor] || missing[relations.awaited]
+        };
+        let can_be_next = |&e: &usize| !is_early(e) && (!recording.is_acquire(e) || !is_blocked(e));
         let ready: Vec<usize> =
             waiting.iter().filter_map(|events| events.last().copied()).filter(can_be_next).collect();
         if ready.is_empty() {
@@ -65,6 +75,7 @@ fn merged_again(random: &mut Random, list: &[usize], recording: &Recording) -> V
         let number = random.pick(&ready);
         let event = recording.event(number);
         locks.pass(event);
+        missing[number] = false;
         merged.push(number);
         waiting[event.task].pop();
     }
@@ -76,7 +87,9 @@ fn extend(random: &mut Random, list: &mut Vec<usize>, pattern: &[usize], recordi
     listed[0] = true;
     list.iter().for_each(|&event| listed[event] = true);
     for _ in 0..random.between(1, 12) {
-        let is_next = |&e: &usize| !listed[e] && listed[recording.relations(e).predecessor];
+        let waits = !random.chance(5);
+        let is_early = |e: usize| waits && !listed[recording.relations(e).awaited];
+        let is_next = |&e: &usize| !listed[e] && listed[recording.relations(e).predecessor] && !is_early(e);
         let mut next: Vec<usize> = (1..=recording.count()).filter(is_next).collect();
         if !random.chance(5) {
             next.retain(|event| !pattern.contains(event));

@@ -1,7 +1,7 @@
 //! Requests and answers as lines of text; bytes are hexadecimal, `-` for none.
 
 use crate::calls;
-use crate::recording::{numbers_from, Refusal};
+use crate::recording::{numbers_from, Event, Refusal};
 
 /// The calls of the protocol, in its order.
 pub const CALLS: [&str; 10] =
@@ -66,6 +66,17 @@ pub fn entries_of(words: &[&str], answer: &Answer) -> Option<(u64, Vec<Vec<usize
         rest = &others[*length..];
     }
     Some((number(size)?, entries))
+}
+
+/// The events after the header of a recording's word.
+pub fn events_of(word: &str) -> Option<Vec<Event>> {
+    let recording = bytes(word)?;
+    Some(numbers_from(recording.get(2..)?).into_iter().map(Event::unpack).collect())
+}
+
+/// The two-byte numbers of a word, or none where it has no bytes.
+pub fn numbers_in(word: &str) -> Vec<usize> {
+    bytes(word).map_or(Vec::new(), |bytes| numbers_from(&bytes))
 }
 
 /// Bytes as lowercase hexadecimal digits, `-` for none.

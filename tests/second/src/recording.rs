@@ -1,7 +1,9 @@
-//! The recording of 01: its events and questions 1 to 7.
+//! The recording of 01: its events and questions 1 to 3; those event by event are in `questions`.
 
-use crate::locks::{outer_events, Locks};
+use crate::locks::outer_events;
+use crate::questions::ask_event_by_event;
 use crate::relations::{relations_of, Relations};
+use crate::tasks::forks;
 
 /// How many locks there are: "a lock (0 to 63)".
 pub const LOCKS: usize = 64;
@@ -24,14 +26,19 @@ impl Refusal {
     }
 }
 
+/// What an event does; 02, job 1: "An acquire record with object 64 to 79 is a start of task object − 64; a
+/// release record with such an object is a join of that task."
 #[derive(Clone, Copy, Debug, PartialEq, Eq)]
 pub enum Operation {
     Read,
     Write,
     Acquire,
     Release,
+    Fork,
+    Join,
 }
 
+/// An event of a recording; the object of a start (`Fork`) or a join is the task that it names.
 #[derive(Clone, Copy, Debug, PartialEq, Eq)]
 pub struct Event {
     pub operation: Operation,
@@ -41,21 +48,32 @@ pub struct Event {
 
 impl Event {
     /// 01: "An event is: operation in 2 bits (0 read, 1 write, 2 acquire, 3 release), task in
-    /// 4 bits, object in 10 bits."
+    /// 4 bits, object in 10 bits."; 02, job 1: "object 64 to 79 is a start of task object − 64".
     pub fn unpack(word: usize) -> Event {
-        let operation = match word >> 14 {
-            0 => Operation::Read,
-            1 => Operation::Write,
-            2 => Operation::Acquire,
-            _ => Operation::Release,
-        };
-        Event { operation, task: (word >> 10) & 15, object: word & 1023 }
+        let (task, object) = ((word >> 10) & 15, word & 1023);
+        let names_task = (LOCKS..LOCKS + TASKS).contains(&object);
+        match word >> 14 {
+            0 => Event { operation: Operation::Read, task, object },
+            1 => Event { operation: Operation::Write, task, object },
+            2 if names_task => Event::fork(task, object - LOCKS),
+            2 => Event::acquire(task, object),
+            _ if names_task => Event::join(task, object - LOCKS),
+            _ => Event::release(task, object),
+        }
     }
 
     /// The inverse of `unpack`, 01: "All fields are unsigned and bit-packed, most significant bit
     /// first."
     pub fn pack(self) -> usize {
-        (self.operation as usize) << 14 | self.task << 10 | self.object
+        let (code, object) = match self.operation {
+            Operation::Read => (0, self.object),
+            Operation::Write => (1, self.object),
+            Operation::Acquire => (2, self.object),
+            Operation::Release => (3, self.object),
+            Operation::Fork => (2, LOCKS + self.object),
+            Operation::Join => (3, LOCKS + self.object),
+        };
+        code << 14 | self.task << 10 | object
     }
 
     /// 01: "T0 a1 means task 0 acquires lock 1".
@@ -68,9 +86,25 @@ impl Event {
         Event { operation: Operation::Release, task, object: lock }
     }
 
-    /// 01: "a lock (0 to 63) for acquire and release, a variable (0 to 1,023) for read and write".
+    /// 02, job 1: "a start of task object − 64".
+    pub fn fork(task: usize, started: usize) -> Event {
+        Event { operation: Operation::Fork, task, object: started }
+    }
+
+    /// 02, job 1: "a join of that task".
+    pub fn join(task: usize, joined: usize) -> Event {
+        Event { operation: Operation::Join, task, object: joined }
+    }
+
+    /// 01: "a lock (0 to 63) for acquire and release, a variable (0 to 1,023) for read and write"; 02, job 1,
+    /// of starts and joins: "Neither touches a lock".
     pub fn uses_lock(self) -> bool {
         self.operation == Operation::Acquire || self.operation == Operation::Release
+    }
+
+    /// Whether it is a start or a join, which name a task.
+    pub fn names_task(self) -> bool {
+        self.operation == Operation::Fork || self.operation == Operation::Join
     }
 }
 
@@ -97,6 +131,8 @@ pub fn encode(events: &[Event]) -> Vec<u8> {
 pub struct Recording {
     events: Vec<Event>,
     outer: Vec<bool>,
+    /// For each task its start, or 0.
+    forks: [usize; TASKS],
     relations: Vec<Relations>,
 }
 
@@ -106,8 +142,9 @@ impl Recording {
         let events = ask_about_bytes(bytes)?;
         ask_event_by_event(&events)?;
         let outer = outer_events(&events);
-        let relations = relations_of(&events, &outer);
-        Ok(Recording { events, outer, relations })
+        let forks = forks(&events);
+        let relations = relations_of(&events, &outer, &forks);
+        Ok(Recording { events, outer, forks, relations })
     }
 
     /// 01: "event count n in 12 bits (0 to 4,095)".
@@ -125,7 +162,12 @@ impl Recording {
         &self.relations[number - 1]
     }
 
-    /// 01: "operation in 2 bits (0 read, 1 write, 2 acquire, 3 release)".
+    /// The task's start, if the recording has one.
+    pub fn fork_of(&self, task: usize) -> Option<usize> {
+        Some(self.forks[task]).filter(|&fork| fork != 0)
+    }
+
+    /// 01: "operation in 2 bits (0 read, 1 write, 2 acquire, 3 release)"; a start is no acquire.
     pub fn is_acquire(&self, number: usize) -> bool {
         self.event(number).operation == Operation::Acquire
     }
@@ -158,32 +200,24 @@ fn ask_about_bytes(bytes: &[u8]) -> Result<Vec<Event>, Refusal> {
     Ok(numbers_from(&bytes[2..]).into_iter().map(Event::unpack).collect())
 }
 
-/// Questions 4 to 7: "event by event, the earliest failing event deciding".
-fn ask_event_by_event(events: &[Event]) -> Result<(), Refusal> {
-    let mut locks = Locks::all_free();
-    let mut written = [false; VARIABLES];
-    for (index, &event) in events.iter().enumerate() {
-        if let Some(number) = first_no(event, &locks, &written) {
-            return Err(Refusal { number, event: index as u64 + 1 });
-        }
-        locks.pass(event);
-        if event.operation == Operation::Write {
-            written[event.object] = true;
-        }
-    }
-    Ok(())
-}
+#[cfg(test)]
+mod tests {
+    use super::*;
 
-/// The first of questions 4 to 7 that is answered "no" for this event; 02, job 9: "Question 5 is "no" only
-/// where another task holds the lock".
-fn first_no(event: Event, locks: &Locks, written: &[bool]) -> Option<u64> {
-    if event.uses_lock() && event.object > 63 {
-        return Some(4);
-    }
-    match event.operation {
-        Operation::Acquire if locks.is_held_by_another(event.object, event.task) => Some(5),
-        Operation::Release if locks.holder(event.object) != Some(event.task) => Some(6),
-        Operation::Read if !written[event.object] => Some(7),
-        _ => None,
+    #[test]
+    fn records_are_unpacked_and_packed() {
+        for word in 0..65_536 {
+            let event = Event::unpack(word);
+            let (code, task, object) = (word / 16_384, word / 1024 % 16, word % 1024);
+            let expected = match (code, object) {
+                (0, _) => Event { operation: Operation::Read, task, object },
+                (1, _) => Event { operation: Operation::Write, task, object },
+                (2, 64..=79) => Event { operation: Operation::Fork, task, object: object - 64 },
+                (2, _) => Event { operation: Operation::Acquire, task, object },
+                (_, 64..=79) => Event { operation: Operation::Join, task, object: object - 64 },
+                (_, _) => Event { operation: Operation::Release, task, object },
+            };
+            assert_eq!((event, event.pack()), (expected, word));
+        }
     }
 }

@@ -2,8 +2,8 @@
 
 use crate::closure::set_has;
 use crate::locks::{outer_events, Locks};
-use crate::protocol::{bytes, entries_of, number, Answer};
-use crate::recording::{numbers_from, Event, Operation, LOCKS, TASKS};
+use crate::protocol::{bytes, entries_of, events_of, number, numbers_in, Answer};
+use crate::recording::{Event, Operation, LOCKS, TASKS};
 
 /// Counts of what occurred.
 #[derive(Default)]
@@ -40,7 +40,7 @@ impl Reentry {
         let words: Vec<&str> = request.split(' ').collect();
         let events = words.get(1).and_then(|word| events_of(word)).unwrap_or_default();
         match answer.refusal.number {
-            1..=4 | 7 => {}
+            1..=4 | 7 | 15 | 16 => {}
             5 | 6 => self.count_misuse(&events[..answer.refusal.event as usize]),
             _ => {
                 let nesting = Nesting { outer: outer_events(&events), events };
@@ -226,17 +226,6 @@ impl History {
         self.latest_holder[lock] = task;
         self.greatest = self.greatest.max(depth);
     }
-}
-
-/// The events after the header of a recording's word.
-fn events_of(word: &str) -> Option<Vec<Event>> {
-    let recording = bytes(word)?;
-    Some(numbers_from(recording.get(2..)?).into_iter().map(Event::unpack).collect())
-}
-
-/// The two-byte numbers of a word, or none where it has no bytes.
-fn numbers_in(word: &str) -> Vec<usize> {
-    bytes(word).map_or(Vec::new(), |bytes| numbers_from(&bytes))
 }
 
 #[cfg(test)]

@@ -1,9 +1,11 @@
 //! Rows A to K of 01 and the sizes of a listing, as the requests of 02 have changed them, as statements about
-//! the calls; locks taken again by their holder are in `again`.
+//! the calls; locks taken again by their holder are in `again`, starts and joins in `forks` and `forked`.
 
 use crate::again;
 use crate::calls::{check, close, list, load, schedule, verdict, witness, Listed, Witnessed};
 use crate::closure::put_into_set;
+use crate::forked;
+use crate::forks;
 use crate::protocol::hexadecimal;
 use crate::recording::{bytes_from, encode, Event, Operation, Refusal};
 
@@ -21,7 +23,7 @@ const G: &str = "T0 a0 r0 W0 W0 W0 W0 W0 W0";
 /// definitions, as a single tabulated fact"; a row that a request of 02 has changed is as it is there.
 pub fn failing() -> Vec<&'static str> {
     let rows = [row_a(), row_b_to_d(), row_e(), row_f(), sizes(), row_g(), row_h_to_k()].concat();
-    let statements = [rows, again::statements()].concat();
+    let statements = [rows, again::statements(), forks::statements(), forked::statements()].concat();
     statements.into_iter().filter(|(_, holds)| !holds).map(|(name, _)| name).collect()
 }
 
@@ -107,12 +109,15 @@ fn row_g() -> Statements {
     ]
 }
 
+/// 02, job 1: "Row I's first recording then gives 15 at 1, and 10 01 80 50 gives 4."; job 9: "row J is then
+/// accepted".
 fn row_h_to_k() -> Statements {
     let refused = |number, event| Err(Refusal { number, event });
     vec![
         ("H: accepted", check(&[0x10, 0x00]) == Ok(())),
         ("H: empty", lists(&[0x10, 0x00], 0, &[])),
-        ("I: 4 at 1", check(&[0x10, 0x01, 0x80, 0x40]) == refused(4, 1)),
+        ("I: 15 at 1", check(&[0x10, 0x01, 0x80, 0x40]) == refused(15, 1)),
+        ("I: 4 at 1 from object 80", check(&[0x10, 0x01, 0x80, 0x50]) == refused(4, 1)),
         ("I: accepted", check(&[0x10, 0x01, 0x80, 0x3f]) == Ok(())),
         ("J: accepted", check(&[0x10, 0x02, 0x80, 0x00, 0x80, 0x00]) == Ok(())),
         ("K: 7 at 1", check(&[0x10, 0x01, 0x00, 0x00]) == refused(7, 1)),
@@ -120,7 +125,7 @@ fn row_h_to_k() -> Statements {
     ]
 }
 
-/// The bytes of a recording in 01's notation.
+/// The bytes of a recording in 01's notation, in which s starts a task and j joins one.
 pub fn row(text: &str) -> Vec<u8> {
     let mut task = 0;
     let mut events = Vec::new();
@@ -132,6 +137,8 @@ pub fn row(text: &str) -> Vec<u8> {
             "r" => event(Operation::Release),
             "W" => event(Operation::Write),
             "R" => event(Operation::Read),
+            "s" => event(Operation::Fork),
+            "j" => event(Operation::Join),
             _ => task = number,
         }
     }

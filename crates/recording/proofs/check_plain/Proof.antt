@@ -141,8 +141,8 @@ loop-again c =
       search needs,
       plain-next (k .inv .3) (sym refusal ∙ c .if2 .left)
           (sym (c .before .before .before .before .before .before .before .before .before .before .before
-          .before .before .before .before .before .before .before .before .before .forks .ensures) ∙ c
-          .before .before .before .before .before .before .before .before .before .before .before .before
+          .before .before .before .before .before .before .before .before .before .forks .ensures)
+          ∙ c .before .before .before .before .before .before .before .before .before .before .before .before
           .before .before .before .before .before .before .before .if1 .left) (asked .ensures .1 (c .if2 .left)),
     )
 
