@@ -443,7 +443,7 @@ fn witness_records(records: &[u8], pattern: &[u8], out: &mut [u8]) -> model::Wit
 }
 
 // The schedule that witnesses a lent pattern, the closure of its predecessors in recording order: questions 1
-// to 7, then question 10, the verdict, and where that is deadlock question 13.
+// to 7, 15 and 16, then question 10, the verdict, and where that is deadlock question 13.
 pub fn witness(recording: &[u8], pattern: &[u8], out: &mut [u8]) -> model::Witness
     ensures answer { λ r. ⌜ r ≡ witness (now (recording .entry)) (now (pattern .entry))
         (length (now (out .entry))) ⌝ }
