@@ -1,9 +1,9 @@
 -- What one event is refused with and what it does to the tables of the check, by its operation and object.
 -- Assumes nothing.
 use Prim.Native.Nat.{ℕ, suc, _+_, _-_, _≤_, _<_}
-use mathlib.Core.Path.{_≡_, sym, _∙_}
+use mathlib.Core.Path.{_≡_, refl, sym, _∙_}
 use mathlib.Core.Logic.{_≢_}
-use mathlib.Core.Bool.{false, cond}
+use mathlib.Core.Bool.{Bool, true, false, cond, _||_}
 use mathlib.Core.List.{List}
 use native.Mathlib.Numerals.{add-one}
 use native.Mathlib.Omega.{arith}
@@ -22,7 +22,7 @@ use Rattle.laws.proofs.Operations.{isRead-op, isWrite-op, isStart-none, isJoin-
 use Rattle.laws.proofs.Operations.{isStart-lock, isJoin-lock, tasks-is}
 use Rattle.laws.proofs.Faults.{fault-object, fault-acquire, fault-release, fault-start, fault-join}
 use Rattle.laws.proofs.Faults.{fault-write, fault-read}
-use Rattle.recording.specs.Asked.{Done}
+use Rattle.recording.specs.Asked.{Done, Lockless}
 
 -- What event e is refused with, unless its task is over, and the tables that it leaves.
 abbrev Answer : Trace → ℕ → ℕ → List ℕ → List ℕ → List ℕ → List ℕ → List ℕ → Type 0
@@ -35,6 +35,28 @@ pub record Coming (σ : Trace) (e op o : ℕ) (holders depths writes starts join
   pub op-is : (op < 4) × (op ≡ at σ e .op)
   pub object-is : (o < variables) × (o ≡ object σ e)
   pub done : Done σ e holders depths writes starts joins
+
+pub coming : {σ : Trace} {e op o : ℕ} {holders depths writes starts joins : List ℕ}
+    → (op < 4) × (op ≡ at σ e .op) → (o < variables) × (o ≡ object σ e)
+    → Done σ e holders depths writes starts joins → Coming σ e op o holders depths writes starts joins
+coming q r z = record {
+  op-is = q;
+  object-is = r;
+  done = z;
+}
+
+-- What is answered where starts and joins are left aside: 4 stands for them.
+abbrev Plainly : Trace → ℕ → ℕ → List ℕ → List ℕ → List ℕ → List ℕ → List ℕ → Type 0
+Plainly σ e r holders depths writes starts joins =
+    (r ≢ 4 → ((isStart σ e || isJoin σ e) ≡ false)
+    × (fault σ e ≡ cond (eqb r 0) (cond (isOver σ e) 16 0) r))
+    × (r ≡ 0 → Done σ (e + 1) holders depths writes starts joins)
+    × (r ≡ 4 → Lockless σ e × Done σ e holders depths writes starts joins)
+
+-- Neither question 5 nor question 6 has the number 4.
+not-four : (b : Bool) {r k : ℕ} → r ≡ cond b 0 k → k ≢ 4 → r ≢ 4
+not-four true q d n = absurd (omega arith)
+not-four false q d n = d (sym q ∙ n)
 
 module _ {σ : Trace} {e op o : ℕ} {holders depths writes starts joins : List ℕ}
     (u : Coming σ e op o holders depths writes starts joins) where
@@ -204,3 +226,47 @@ module _ {σ : Trace} {e op o : ℕ} {holders depths writes starts joins : List 
         joined = rw (add-one e) at (f none);
       }),
     )
+
+  -- ---- with starts and joins left aside
+
+  plainly : {r : ℕ} {hs ds ws : List ℕ} → isStart σ e ≡ false → isJoin σ e ≡ false → r ≢ 4
+      → Answer σ e r hs ds ws starts joins → Plainly σ e r hs ds ws starts joins
+  plainly a b d (q, f) = ((λ _. (rw (a, b), q)), f, λ n. absurd (d n))
+
+  -- A read or a write,
+  pub plain-access : {r : ℕ} {ws : List ℕ} → op < 2 → r ≢ 4
+      → Answer σ e r holders depths ws starts joins → Plainly σ e r holders depths ws starts joins
+  plain-access h = plainly (isStart-none σ e is-op (omega arith)) (isJoin-none σ e is-op (omega arith))
+
+  -- an acquire of a lock,
+  pub plain-acquire : o < 64 → op ≡ 2 → (r : ℕ) (hs ds : List ℕ)
+      → (r ≡ cond (isFree σ e) 0 5) × (r ≡ 0 → Holders σ (e + 1) hs ds)
+      → Plainly σ e r hs ds writes starts joins
+  plain-acquire h a r hs ds q =
+      plainly (isStart-lock σ e is-op (omega (arith, is-object)))
+      (isJoin-lock σ e is-op (omega (arith, is-object)))
+      (not-four (isFree σ e) (q .0) (omega arith)) (acquired h (omega arith) a r hs ds q)
+
+  -- a release of one,
+  pub plain-release : o < 64 → op ≡ 3 → (r : ℕ) (hs ds : List ℕ)
+      → (r ≡ cond (holds σ e (task σ e) (object σ e)) 0 6) × (r ≡ 0 → Holders σ (e + 1) hs ds)
+      → Plainly σ e r hs ds writes starts joins
+  plain-release h a r hs ds q =
+      plainly (isStart-lock σ e is-op (omega (arith, is-object)))
+      (isJoin-lock σ e is-op (omega (arith, is-object)))
+      (not-four (holds σ e (task σ e) (object σ e)) (q .0) (omega arith))
+      (released h (omega arith) a r hs ds q)
+
+  -- and any other record.
+  pub plain-other : 64 ≤ o → op ≢ 0 → op ≢ 1 → Plainly σ e 4 holders depths writes starts joins
+  plain-other h a b = (
+    λ d. absurd (d refl),
+    λ n. absurd (omega arith),
+    λ _. (
+      record {
+        locking = omega (arith, is-op);
+        beyond = omega (arith, is-object);
+      },
+      z,
+    ),
+  )

@@ -3,13 +3,13 @@
 use Prim.Native.Nat.{ℕ, _+_, _-_, _/_, _≤_, _<_}
 use mathlib.Core.Path.{_≡_, sym, _∙_}
 use mathlib.Core.Logic.{⊎-elim, _≢_}
-use mathlib.Core.Bool.{true, false, cond, not, _||_, or-true}
+use mathlib.Core.Bool.{true, false, cond, not, _||_}
 use mathlib.Core.List.{List}
 use native.Mathlib.Numerals.{add-one}
 use native.Mathlib.Omega.{arith}
-use lib.Dec.{T, not-T, eqb, leb}
+use lib.Dec.{not-T, eqb}
 use lib.ListN.{length, getD, set, replicate, length-set, length-replicate}
-use borrow.Author.Tests.{eq-eqb, ne-eqb, le-leb, lt-leb}
+use borrow.Author.Tests.{eq-eqb, ne-eqb}
 use Rattle.model.specs.Trace.{Trace, tasks, locks, variables, at, task, object, isWrite}
 use Rattle.model.specs.Tasks.{isStart, isJoin, target}
 use Rattle.model.specs.Recording.{decodeAll}
@@ -17,10 +17,9 @@ use Rattle.model.specs.WellFormed.{isOver, fault}
 use Rattle.model.specs.Calls.Questions.{outcome}
 use Rattle.model.specs.Calls.Check.{checkEvents}
 use Rattle.laws.specs.Walked.{LatestEvents}
-use Rattle.laws.proofs.Tests.{equal?, at-most?, is-false, or-l, or-r}
+use Rattle.laws.proofs.Tests.{equal?, is-false, or-r}
 use Rattle.laws.proofs.Tasks.{joins-iff}
 use Rattle.laws.proofs.Forks.{isOver-iff}
-use Rattle.laws.proofs.Operations.{isStart-none, isJoin-none, isStart-lock, isJoin-lock, starts-is, joins-is}
 use Rattle.laws.proofs.Trace.{decodeAll-length}
 use Rattle.laws.proofs.LatestEvents.{latest-start, latest-set, latest-over}
 use Rattle.laws.proofs.Kept.{holders-start}
@@ -71,29 +70,7 @@ module _ {σ : Trace} {e t over r : ℕ} (u : Answered σ e t over r) where
             (omega (arith, u .task-is, z .latest-long)));
       }
 
--- ---- starts and joins
-
-module _ (σ : Trace) (e : ℕ) {op : ℕ} (q : (op < 4) × (op ≡ at σ e .op)) where
-  -- A read or a write is neither.
-  pub forks-access : op < 2 → false ≡ (isStart σ e || isJoin σ e)
-  forks-access h = rw (isStart-none σ e (q .1) (omega arith), isJoin-none σ e (q .1) (omega arith))
-
-  -- Another record is one where its object is no lock.
-  pub forks-object : 2 ≤ op → {o : ℕ} → o ≡ object σ e → leb 64 o ≡ (isStart σ e || isJoin σ e)
-  forks-object h {o} r =
-      ⊎-elim
-      (λ (l : 64 ≤ o).
-      let beyond : locks ≤ object σ e = omega arith in
-      ⊎-elim (λ (a : op ≡ 2). rw (le-leb 64 o l, starts-is σ e (q .1) beyond a))
-      (λ (d : op ≢ 2). rw (le-leb 64 o l, joins-is σ e (q .1) beyond (omega arith), or-true))
-      (equal? op 2))
-      (λ (l : o < 64).
-      let lock : object σ e < locks = omega arith in
-      rw (lt-leb 64 o l, isStart-lock σ e (q .1) lock, isJoin-lock σ e (q .1) lock)) (at-most? 64 o)
-
--- What is neither is no start.
-pub neither : (σ : Trace) (e : ℕ) → (isStart σ e || isJoin σ e) ≡ false → T (isStart σ e) → ⊥
-neither σ e n s = rw n at (or-l (isStart σ e) (isJoin σ e) s)
+-- ---- before the first start or join
 
 -- Before event 1 nothing is done.
 pub done-start : (σ : Trace)
@@ -140,6 +117,14 @@ module _ {σ : Trace} {e : ℕ} {holders depths writes starts joins : List ℕ}
       join : isJoin σ e ≡ false
       join = is-false (isJoin σ e) (not-T (isJoin σ e) (λ j.
           rw n at (or-r (isStart σ e) (isJoin σ e) j)))
+
+  -- At an event that is asked no further the tables may be others of the same.
+  pub plain-again : {hs ds ws ss js : List ℕ} → Done σ e hs ds ws ss js → Plain σ e hs ds ws ss js
+  plain-again done = record {
+    faultless = z .faultless;
+    unjoined = z .unjoined;
+    done = done;
+  }
 
   -- With the latest events it goes on with both.
   pub plain-asked : {latest : List ℕ} → length latest ≡ tasks → LatestEvents (λ f. true) (task σ) e latest

@@ -5,7 +5,7 @@ use mathlib.Core.Path.{_≡_}
 use mathlib.Core.Bool.{true, false}
 use mathlib.Core.List.{List}
 use lib.ListN.{length}
-use Rattle.model.specs.Trace.{Trace, tasks, variables, task, object, isWrite}
+use Rattle.model.specs.Trace.{Trace, tasks, locks, variables, at, task, object, isWrite}
 use Rattle.model.specs.Tasks.{isStart, isJoin, target}
 use Rattle.model.specs.WellFormed.{fault}
 use Rattle.laws.specs.Walked.{Holders, LatestEvents}
@@ -20,6 +20,11 @@ pub record Done (σ : Trace) (e : ℕ) (holders depths writes starts joins : Lis
   pub started : LatestEvents (isStart σ) (target σ) e starts
   pub joins-long : length joins ≡ tasks
   pub joined : LatestEvents (isJoin σ) (target σ) e joins
+
+-- Event e is an acquire or a release record that names no lock.
+pub record Lockless (σ : Trace) (e : ℕ) : Type 0 where
+  pub locking : 2 ≤ at σ e .op
+  pub beyond : locks ≤ object σ e
 
 -- The check has come to event e without a start or a join.
 pub record Plain (σ : Trace) (e : ℕ) (holders depths writes starts joins : List ℕ) : Type 0 where

@@ -2,7 +2,7 @@
 // `records` is the part of a recording after its header of two bytes, wherever it stands.
 ghost use Prim.Native.Nat.{_+_, _*_, _-_, _/_, _<_, _≤_};
 ghost use mathlib.Core.Path.{_≡_};
-ghost use mathlib.Core.Bool.{true, cond, _||_};
+ghost use mathlib.Core.Bool.{false, true, cond, _||_};
 ghost use mathlib.Core.Logic.{_≢_};
 ghost use lib.Dec.{T, eqb};
 ghost use lib.ListN.{length, getD, replicate};
@@ -17,7 +17,7 @@ ghost use Rattle.model.specs.WellFormed.{isFree, isNew, isOver, fault};
 ghost use Rattle.model.specs.Calls.Check.{checkEvents, check};
 ghost use Rattle.laws.specs.Sizes.{recordsLength, tableLength};
 ghost use Rattle.laws.specs.Walked.{Holders, LatestEvents};
-ghost use Rattle.recording.specs.Asked.{Done, Plain, Asked};
+ghost use Rattle.recording.specs.Asked.{Done, Lockless, Plain, Asked};
 use model::Outcome;
 
 // The number at place i of bytes that are numbers of two bytes, the high byte first.
@@ -175,6 +175,53 @@ fn join(records: &[u8], e: usize, t: u8, u: usize, joins: &mut [u16]) -> u64
     0
 }
 
+// Puts questions 4 to 7 to event e where it is an access or names a lock, with what earlier events have done:
+// the number of the "no", or 0, and then the tables have what this one does too. Otherwise it is 4, and the
+// tables are as before. Starts and joins only say what is done.
+fn ask_plain(
+    records: &[u8],
+    e: usize,
+    holders: &mut [u8],
+    depths: &mut [u16],
+    writes: &mut [u16],
+    starts: &[u16],
+    joins: &[u16],
+) -> u64
+    requires { ⌜ (1 ≤ e) × (2 * e ≤ length (now records)) × (e < tableLength)
+        × Done (decodeAll (now records)) e (now holders) (now depths) (now writes) (now starts)
+        (now joins) ⌝ }
+    ensures { λ r. ⌜ (r ≢ 4 → ((isStart (decodeAll (now (records .entry))) e
+        || isJoin (decodeAll (now (records .entry))) e) ≡ false)
+        × (fault (decodeAll (now (records .entry))) e
+        ≡ cond (eqb r 0) (cond (isOver (decodeAll (now (records .entry))) e) 16 0) r))
+        × (r ≡ 0 → Done (decodeAll (now (records .entry))) (e + 1) (now (holders .exit)) (now (depths .exit))
+        (now (writes .exit)) (now (starts .entry)) (now (joins .entry)))
+        × (r ≡ 4 → Lockless (decodeAll (now (records .entry))) e
+        × Done (decodeAll (now (records .entry))) e (now (holders .exit)) (now (depths .exit))
+        (now (writes .exit)) (now (starts .entry)) (now (joins .entry))) ⌝ }
+{
+    let op = operation(records, e);
+    let at = object(records, e) as usize;
+    if op == 0 {
+        if writes[at] == 0 {
+            return 7;
+        }
+        return 0;
+    }
+    if op == 1 {
+        writes[at] = e as u16;
+        return 0;
+    }
+    if 64 <= at {
+        return 4;
+    }
+    let t = task(records, e);
+    if op == 2 {
+        return enter(records, e, t, at, holders, depths);
+    }
+    leave(records, e, t, at, holders, depths)
+}
+
 // Puts questions 4 to 7 and 15, and of 16 whether a task joins itself, to event e of task t, with what
 // earlier events have done: the number of the first "no", or 0, and then the tables have what this one does
 // too. The latest event of each task is asked for by a start alone.
@@ -199,31 +246,19 @@ fn ask_object(
         × (r ≡ 0 → Done (decodeAll (now (records .entry))) (e + 1) (now (holders .exit)) (now (depths .exit))
         (now (writes .exit)) (now (starts .exit)) (now (joins .exit))) ⌝ }
 {
-    let op = operation(records, e);
+    let plain = ask_plain(records, e, holders, depths, writes, starts, joins);
+    if plain != 4 {
+        return plain;
+    }
+    let opcode = operation(records, e);
     let at = object(records, e) as usize;
-    if op == 0 {
-        if writes[at] == 0 {
-            return 7;
-        }
-        return 0;
-    }
-    if op == 1 {
-        writes[at] = e as u16;
-        return 0;
-    }
     if 80 <= at {
         return 4;
     }
-    if 64 <= at {
-        if op == 2 {
-            return start(records, e, t, at - 64, latest, starts, joins);
-        }
-        return join(records, e, t, at - 64, joins);
+    if opcode == 2 {
+        return start(records, e, t, at - 64, latest, starts, joins);
     }
-    if op == 2 {
-        return enter(records, e, t, at, holders, depths);
-    }
-    leave(records, e, t, at, holders, depths)
+    join(records, e, t, at - 64, joins)
 }
 
 // Puts questions 4 to 7, 15 and 16 to event e, with the tables of earlier events: the number of the first
@@ -269,57 +304,27 @@ fn ask(
     0
 }
 
-// Whether event e is a start or a join.
-fn forks(records: &[u8], e: usize) -> bool
-    requires { ⌜ (1 ≤ e) × (2 * e ≤ length (now records)) ⌝ }
-    ensures { λ r. ⌜ r ≡ (isStart (decodeAll (now (records .entry))) e
-        || isJoin (decodeAll (now (records .entry))) e) ⌝ }
-{
-    if operation(records, e) < 2 {
-        return false;
-    }
-    64 <= object(records, e)
-}
-
-// Puts the questions to the events before the first start or join, of which no task is over: a refusal, or 0
-// with that event, or with the number after the last one. The tables stand before it then.
+// Puts the questions to the events before the first start or join, of which no task is over: a refusal, 0, or
+// 4 with the first event that is a start or a join or has no object. The tables stand before it then.
 fn check_plain(
     records: &[u8],
     holders: &mut [u8],
     depths: &mut [u16],
     writes: &mut [u16],
-    starts: &mut [u16],
-    joins: &mut [u16],
+    starts: &[u16],
+    joins: &[u16],
 ) -> Outcome
     requires { ⌜ (length (now records) ≤ recordsLength)
         × Done (decodeAll (now records)) 1 (now holders) (now depths) (now writes) (now starts)
         (now joins) ⌝ }
-    ensures { λ r. ⌜ (r .refusal ≢ 0 → r ≡ checkEvents (decodeAll (now (records .entry))))
-        × (r .refusal ≡ 0 → (1 ≤ r .event) × (r .event ≤ length (now (records .entry)) / 2 + 1)
+    ensures { λ r. ⌜ (r .refusal ≢ 4 → r ≡ checkEvents (decodeAll (now (records .entry))))
+        × (r .refusal ≡ 4 → (1 ≤ r .event) × (r .event ≤ length (now (records .entry)) / 2)
         × Plain (decodeAll (now (records .entry))) (r .event) (now (holders .exit)) (now (depths .exit))
-        (now (writes .exit)) (now (starts .exit)) (now (joins .exit))) ⌝ }
+        (now (writes .exit)) (now (starts .entry)) (now (joins .entry))) ⌝ }
 {
-    let latest = [0u16; 16];
     let mut e = 1;
     while e <= records.len() / 2 {
-        if forks(records, e) {
-            return Outcome {
-                refusal: 0,
-                event: e as u64,
-            };
-        }
-        let t = task(records, e);
-        let refusal = ask_object(
-            records,
-            e,
-            t,
-            holders,
-            depths,
-            writes,
-            &latest,
-            starts,
-            joins,
-        );
+        let refusal = ask_plain(records, e, holders, depths, writes, starts, joins);
         if refusal != 0 {
             return Outcome {
                 refusal,
@@ -330,7 +335,7 @@ fn check_plain(
     }
     Outcome {
         refusal: 0,
-        event: e as u64,
+        event: 0,
     }
 }
 
@@ -359,7 +364,7 @@ fn check_forked(
     starts: &mut [u16],
     joins: &mut [u16],
 ) -> Outcome
-    requires { ⌜ (length (now records) ≤ recordsLength) × (1 ≤ from) × (from ≤ length (now records) / 2 + 1)
+    requires { ⌜ (length (now records) ≤ recordsLength) × (1 ≤ from) × (from ≤ length (now records) / 2)
         × Plain (decodeAll (now records)) from (now holders) (now depths) (now writes) (now starts)
         (now joins) ⌝ }
     ensures { λ r. ⌜ r ≡ checkEvents (decodeAll (now (records .entry))) ⌝ }
@@ -408,22 +413,15 @@ fn check_events(records: &[u8]) -> Outcome
         &mut holders,
         &mut depths,
         &mut writes,
-        &mut starts,
-        &mut joins,
+        &starts,
+        &joins,
     );
-    if plain.refusal != 0 {
+    if plain.refusal != 4 {
         return plain;
-    }
-    let from = plain.event as usize;
-    if records.len() / 2 < from {
-        return Outcome {
-            refusal: 0,
-            event: 0,
-        };
     }
     check_forked(
         records,
-        from,
+        plain.event as usize,
         &mut holders,
         &mut depths,
         &mut writes,

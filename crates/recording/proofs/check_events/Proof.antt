@@ -1,7 +1,7 @@
--- `recording::check_events` meets its contract: where the first part refuses nothing, the second goes on from
--- where that one ended. Assumes nothing.
+-- `recording::check_events` meets its contract: where the first part ends with 4, the second goes on from
+-- there. Assumes nothing.
 use Rattle.model.specs.Recording.{decodeAll}
-use Rattle.recording.proofs.Walk.{done-start, asked-passed}
+use Rattle.recording.proofs.Walk.{done-start}
 use borrow.Author.Needs.{needs}
 use Rattle.recording.proofs.check_events.Statement.{statement}
 use Rattle.recording.proofs.check_events.Tie as tie
@@ -30,15 +30,7 @@ check-plain-requires c κs = (
 
 returns : tie.Need-returns
 returns c =
-    c .before .before .before .before .before .before .before .check-plain .ensures .0 (c .if1 .taken)
-
-returns-2 : tie.Need-returns-2
-returns-2 c =
-    let plain = c .before .before .before .before .before .before .before .before .check-plain in
-    let (h, k, z) = plain .ensures .1 (c .before .if1 .left) in
-    asked-passed (c .before .before .before .before .before .before .before .before .before .before
-    .before .before .before .before .before .args .records .now) (plain .result .event) (z .faultless)
-    (c .if2 .taken)
+    c .before .before .before .before .before .check-plain .ensures .0 (c .if1 .taken)
 
 slice-aggregate-check-forked : tie.Need-slice-aggregate-check-forked
 slice-aggregate-check-forked c = search needs
@@ -57,18 +49,17 @@ slice-aggregate-check-forked-5 c = search needs
 
 check-forked-requires : tie.Need-check-forked-requires
 check-forked-requires c κs =
-    let (h, k, z) = c .before .before .before .before .before .before .before .before .before .before
-    .before .before .before .check-plain .ensures .1 (c .before .before .before .before .before
-    .before .if1 .left) in (
+    let (h, k, z) = c .before .before .before .before .before .before .before .before .before
+    .before .check-plain .ensures .1 (c .before .before .before .before .before .if1 .left) in (
       c .before .before .before .before .before .before .before .before .before .before .before .before
-          .before .before .before .before .before .before .before .before .pre,
+          .before .before .before .before .before .pre,
       h,
       k,
       z,
     )
 
-returns-3 : tie.Need-returns-3
-returns-3 c = search needs
+returns-2 : tie.Need-returns-2
+returns-2 c = search needs
 
 pub check-events-spec : {M : Type 1} → statement M
 check-events-spec =
@@ -81,11 +72,10 @@ check-events-spec =
     slice-aggregate-check-plain-5
     check-plain-requires
     returns
-    returns-2
     slice-aggregate-check-forked
     slice-aggregate-check-forked-2
     slice-aggregate-check-forked-3
     slice-aggregate-check-forked-4
     slice-aggregate-check-forked-5
     check-forked-requires
-    returns-3)
+    returns-2)

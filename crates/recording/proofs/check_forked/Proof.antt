@@ -1,6 +1,7 @@
 -- `recording::check_forked` meets its contract: before each event the tables are those of the check, and no
 -- earlier event has a fault. Assumes nothing.
 use Prim.Native.Nat.{_+_, _-_, _/_, _≤_}
+use native.Mathlib.Omega.{arith}
 use borrow.Author.Needs.{needs}
 use lib.ListN.{length}
 use Rattle.model.specs.Recording.{decodeAll}
@@ -31,7 +32,7 @@ note-latest-requires c κs =
 loop-holds : tie.Need-loop-holds Inv-loop μ-loop
 loop-holds c =
     let k = c .before .before .before .before .before .before .before .before .before .pre in
-    (k .1, k .2, plain-asked (k .3) (search needs) (c .before .note-latest .ensures))
+    (k .1, omega (arith, k .2), plain-asked (k .3) (search needs) (c .before .note-latest .ensures))
 
 slice-aggregate-ask : tie.Need-slice-aggregate-ask Inv-loop μ-loop
 slice-aggregate-ask c =
