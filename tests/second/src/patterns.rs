@@ -172,14 +172,12 @@ impl<'a> Search<'a> {
     fn entries_missing(&self, first: usize) -> [usize; LOCKS] {
         let held = self.recording.relations(first).held;
         let mut missing = [OUT_OF_REACH; LOCKS];
-        (0..LOCKS).filter(|lock| held >> lock & 1 == 1).for_each(|lock| missing[lock] = 0);
-        for length in 1..OUT_OF_REACH {
-            for lock in 0..LOCKS {
-                let leads = |to: usize| missing[to] == length - 1 && self.latest_nesting[lock][to] > first;
-                if missing[lock] == OUT_OF_REACH && (0..LOCKS).any(leads) {
-                    missing[lock] = length;
-                }
-            }
+        let mut reached: Vec<usize> = (0..LOCKS).filter(|lock| held >> lock & 1 == 1).collect();
+        for length in 0..OUT_OF_REACH {
+            reached.iter().for_each(|&lock| missing[lock] = length);
+            let leads = |lock: usize| reached.iter().any(|&to| self.latest_nesting[lock][to] > first);
+            let is_next = |&lock: &usize| missing[lock] == OUT_OF_REACH && leads(lock);
+            reached = (0..LOCKS).filter(is_next).collect();
         }
         missing
     }
