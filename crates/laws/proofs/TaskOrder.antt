@@ -3,7 +3,7 @@
 use Prim.Native.Nat.{ℕ, zero, suc, ◌-◌, ◌≤◌, ◌<◌}
 use mathlib.Core.Path.{◌≡◌, refl, sym, ap, ◌∙◌}
 use mathlib.Core.Logic.{◌⊎◌, inl, inr, ⊎_elim, ◌≢◌}
-use mathlib.Core.Bool.{Bool, true, not, ◌&&◌}
+use mathlib.Core.Bool.{Bool, true, false, not, ◌&&◌}
 use native.Mathlib.Omega.{arith}
 use lib.ListN.{length}
 use lib.Dec.{T, T_not, eqb, eqb→eq}
@@ -26,6 +26,7 @@ use Rattle.laws.proofs.WellFormed.{WellFormed, unless_not, answers, sync_lt}
 
 not-not : (a : Bool) → T (not (not a)) → T a
 not-not true h = tt
+not-not false h = elim h [ ]
 
 module _ (σ : Trace) (ok : WellFormed σ) where
   -- The task that a start or a join names is one of the sixteen.
