@@ -1,0 +1,13 @@
+-- `recording::operation` meets its contract: the top 2 bits of an event's first byte are its operation.
+-- Assumes nothing.
+use Prim.Native.Nat.{◌*◌, ◌-◌}
+use native.Mathlib.Omega.{arith}
+use Rattle.laws.proofs.Trace.{record_op}
+use Rattle.recording.proofs.operation.Goals as goal
+
+pub returns : goal.returns
+returns c =
+    let a = c.args in (
+      omega (arith, c.shared_slice_known-1.given (2 * (a.e - 1))),
+      record_op a.records.now a.e c.requires.0 c.requires.1,
+    )
