@@ -1,5 +1,7 @@
 // One event more on a chain of acquires that may become a pattern: whether it may lead back to the first
 // event, and the closure of the predecessors with it.
+#![tactic(auto)]
+
 ghost use Rattle.std.specs.Prelude.{ℕ, suc, ◌*◌, ◌^◌, ◌<◌, ◌≤◌, ◌≡◌, ◌≢◌, cond, not, List, [], ◌∷◌, ◌++◌, T, eqb, leb, length, get_or, take};
 ghost use Rattle.std.specs.Int.Bits.{bit_or};
 ghost use Rattle.model.specs.Lists.{all, has_bit};

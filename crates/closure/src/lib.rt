@@ -1,5 +1,7 @@
 // The closure of a lent event set: its bytes as words, the latest wanted event of each task, and the frontier
 // that closes them, written back as bytes.
+#![tactic(auto)]
+
 ghost use Rattle.std.specs.Prelude.{ℕ, suc, ◌+◌, ◌-◌, ◌*◌, ◌<◌, ◌≤◌, ◌≡◌, not, ◌&&◌, ◌||◌, T, eqb, leb, ltb, length, get_or, replicate};
 ghost use Rattle.model.specs.Lists.{all, from};
 ghost use Rattle.model.specs.Trace.{tasks, task};

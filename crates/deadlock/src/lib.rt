@@ -1,5 +1,7 @@
 // Deadlock patterns: whether lent bytes are one, its verdict by the closure of its predecessors, and the
 // schedule that witnesses it. A pattern's numbers are two bytes each.
+#![tactic(auto)]
+
 ghost use Rattle.std.specs.Prelude.{◌+◌, ◌*◌, ◌/◌, ◌^◌, ◌<◌, ◌≤◌, ◌≡◌, not, ◌&&◌, [], T, leb, length, get_or, drop, replicate};
 ghost use Rattle.std.specs.Int.Bits.{bit_or};
 ghost use Rattle.std.proofs.lemmas.List.Edits.{sets};

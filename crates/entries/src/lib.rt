@@ -1,5 +1,7 @@
 // The entries of a listing: each pattern that is found is counted, and written into the rest of the output
 // where it fits there.
+#![tactic(auto)]
+
 ghost use Rattle.std.specs.Prelude.{◌+◌, ◌*◌, ◌<◌, ◌≤◌, ◌≡◌, false, [], ◌∷◌, length, take};
 ghost use Rattle.std.proofs.lemmas.List.Edits.{sets};
 ghost use Rattle.model.specs.Bytes.{encode};

@@ -1,5 +1,7 @@
 // The sync-preserving closure of an event set. A set that has the predecessors of its events is kept as its
 // frontier, the latest event that it has of each task; an event is visited once, when the frontier passes it.
+#![tactic(auto)]
+
 ghost use Rattle.std.specs.Prelude.{ℕ, suc, ◌*◌, ◌<◌, ◌≤◌, min, ◌≡◌, cond, length, get_or, eqb, leb};
 ghost use Rattle.model.specs.Trace.{tasks, locks, task, object};
 ghost use Rattle.model.specs.Relations.{predecessor};

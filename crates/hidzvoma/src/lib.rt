@@ -1,5 +1,7 @@
 // The entries for C: the listing and the verdict on numbers and byte slices, each returning one number. What
 // they promise a C program is told in include/hidzvoma.h.
+#![tactic(auto)]
+
 ghost use Rattle.std.specs.Prelude.{◌+◌, ◌*◌, ◌<◌, ◌≡◌, length};
 ghost use Rattle.model.specs.Calls.List.{list_out};
 ghost use Rattle.model.specs.Calls.Entries.{list_entry, verdict_entry};

@@ -1,4 +1,6 @@
 // The listing of a recording: the call that writes the deadlocks that are found.
+#![tactic(auto)]
+
 mod search;
 
 ghost use Rattle.std.specs.Prelude.{◌+◌, ◌<◌, ◌≤◌, ◌≡◌, cond, length, take};

@@ -1,4 +1,6 @@
 // The load of a lock: of how many events some task holds it right after them, in per cent.
+#![tactic(auto)]
+
 ghost use Rattle.std.specs.Prelude.{◌+◌, ◌*◌, ◌<◌, ◌≤◌, ◌≡◌, length};
 ghost use Rattle.model.specs.Trace.{locks};
 ghost use Rattle.model.specs.Recording.{decode_all};

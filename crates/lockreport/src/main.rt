@@ -1,6 +1,8 @@
 // The program lockreport: lists the deadlocks of two events of the recording on standard input, and prints
 // them as text.
 // `text` is what is printed, made as a whole before it is written; its lines are executed and compared.
+#![tactic(auto)]
+
 ghost use Rattle.std.specs.Prelude.{◌+◌, ◌*◌, ◌/◌, ◌≤◌, ◌<◌, ◌≡◌, length, drop};
 ghost use Rattle.model.specs.Calls.List.{list, list_out};
 ghost use Rattle.io.specs.Counts.{IsPrefixLen};

@@ -1,5 +1,7 @@
 // What one event does to the order of events: its predecessor, what it awaits, and the tasks' starts. The
 // table of predecessors has behind the events an entry for each task, with its start.
+#![tactic(auto)]
+
 ghost use Rattle.std.specs.Prelude.{ℕ, ◌+◌, ◌*◌, ◌<◌, ◌≤◌, ◌≡◌, true, length, get_or};
 ghost use Rattle.model.specs.Trace.{tasks, variables, task, object, is_write};
 ghost use Rattle.model.specs.Recording.{decode_all};

@@ -1,4 +1,6 @@
 // The text that a program prints: each function puts bytes at a position, and returns the one behind them.
+#![tactic(auto)]
+
 ghost use Rattle.std.specs.Prelude.{◌+◌, ◌-◌, ◌≤◌, ◌≡◌, ◌∷◌, length};
 ghost use Rattle.std.proofs.lemmas.List.Edits.{sets};
 ghost use Rattle.io.specs.Digits.{last_digits, IsDigitCount};

@@ -1,6 +1,8 @@
 // What the search for deadlocks passes over: events that are no outer acquire at which a lock is held, by
 // links to the next one that is, blocks of events in which none holds the last lock, and chains that cannot
 // lead back to the first event.
+#![tactic(auto)]
+
 ghost use Rattle.std.specs.Prelude.{ℕ, ◌+◌, ◌-◌, ◌*◌, ◌<◌, ◌≤◌, ◌≡◌, cond, T, length, get_or};
 ghost use Rattle.model.specs.Lists.{has_bit};
 ghost use Rattle.model.specs.Trace.{locks, task, object, is_acquire};

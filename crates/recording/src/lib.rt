@@ -1,5 +1,7 @@
 // Recordings: the events of one, unpacked from its records, and the check of questions 1 to 7, 15 and 16.
 // `records` is the part of a recording after its header of two bytes, wherever it stands.
+#![tactic(auto)]
+
 ghost use Rattle.std.specs.Prelude.{◌+◌, ◌*◌, ◌-◌, ◌/◌, ◌<◌, ◌≤◌, ◌≡◌, false, true, cond, ◌||◌, ◌≢◌, T, eqb, length, get_or, replicate};
 ghost use Rattle.std.proofs.lemmas.List.Edits.{sets};
 ghost use Rattle.model.specs.Lists.{has_bit};

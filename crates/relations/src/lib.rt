@@ -1,6 +1,8 @@
 // The relations of a recording's events: tables of all of them, filled in one pass over its records, and the
 // call that gives those of one event. Tables are lent, and have an entry for each event number to 4,095, that
 // of predecessors also one for each task.
+#![tactic(auto)]
+
 ghost use Rattle.std.specs.Prelude.{◌+◌, ◌*◌, ◌/◌, ◌<◌, ◌≤◌, ◌≡◌, cond, eqb, length};
 ghost use Rattle.model.specs.Trace.{locks, task, object, is_acquire};
 ghost use Rattle.model.specs.Recording.{decode_all};

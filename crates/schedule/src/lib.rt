@@ -1,5 +1,7 @@
 // The schedule checker: whether a proposed schedule, from any producer, is order-keeping and leaves the
 // events of a pattern next. It walks through the schedule once, with three tables of what is listed.
+#![tactic(auto)]
+
 ghost use Rattle.std.specs.Prelude.{ℕ, ◌+◌, ◌*◌, ◌/◌, ◌<◌, ◌≤◌, ◌≡◌, true, ◌&&◌, List, ◌∷◌, T, length, get_or, replicate};
 ghost use Rattle.model.specs.Lists.{all};
 ghost use Rattle.model.specs.Trace.{tasks, locks, object, is_event};

@@ -1,5 +1,7 @@
 // What one event does to locks: whether the record of an acquire or release is an outer one, and what the
 // tables of the tasks' locks and of the matches note of it.
+#![tactic(auto)]
+
 ghost use Rattle.std.specs.Prelude.{◌+◌, ◌*◌, ◌<◌, ◌≤◌, ◌≡◌, cond, eqb, length};
 ghost use Rattle.model.specs.Trace.{locks, at, task, object, is_acquire};
 ghost use Rattle.model.specs.Recording.{decode_all};

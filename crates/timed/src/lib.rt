@@ -1,6 +1,8 @@
 // Entries for measuring: the check alone, the check with the tables of every event filled after it, the
 // decision on one pattern many times over, and a number of each other call's answer but for the listing's and
 // the verdict's, whose entries for C are measured.
+#![tactic(auto)]
+
 ghost use Rattle.std.specs.Prelude.{◌<◌, ◌≤◌, ◌≡◌, cond, length};
 ghost use Rattle.model.specs.Recording.{decode_all};
 ghost use Rattle.model.specs.Calls.Questions.{is_accepted};

@@ -17,6 +17,8 @@
 // Any other line is answered "bad request", and so is one of 180,000 bytes or more, whose rest is skipped.
 // In the crate's folder, stdin has requests for the rows of 01, for each question and the edges of each
 // argument, and lines that are none; stdout has their answers.
+#![tactic(auto)]
+
 mod answers;
 mod arguments;
 mod calls;

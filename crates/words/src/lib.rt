@@ -1,5 +1,7 @@
 // Event sets as words of 64 bits, event 1 in the top bit of word 0: single events, how many there are, and
 // the way from the bytes of a lent set and back.
+#![tactic(auto)]
+
 ghost use Rattle.std.specs.Prelude.{ℕ, ◌*◌, ◌-◌, ◌<◌, ◌≤◌, ◌≡◌, false, ◌||◌, eqb, length};
 ghost use Rattle.model.specs.Lists.{filter, from};
 ghost use Rattle.laws.specs.BitRow.{row_bit};

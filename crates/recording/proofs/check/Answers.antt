@@ -3,7 +3,7 @@
 use mathlib.Core.Path.{sym, ◌∙◌}
 use Rattle.model.specs.Recording.{format, trace}
 use Rattle.laws.proofs.Parts.{part-from}
-use Rattle.laws.proofs.Questions.{check_short, check-format, check-length, check_events}
+use Rattle.laws.proofs.Questions.{check_short, check-format, check-length, check_events_lem}
 use Rattle.recording.proofs.check.Goals as goal
 
 pub returns-then-recording-lt2 : goal.returns-then-recording-lt2
@@ -25,6 +25,6 @@ pub returns : goal.returns
 unfolding format trace
 returns c =
     let b = c.args.recording.now in
-    rw (part-from 2 b) at c.«check_events».ensures
-    ∙ sym (check_events b c.if-recording-lt2.false c.if-recording-ne1.false
+    rw (part-from 2 b) at c.check_events.ensures
+    ∙ sym (check_events_lem b c.if-recording-lt2.false c.if-recording-ne1.false
     (rw c.event_count.ensures.1 at c.if-recording-event_count.false))
