@@ -1,0 +1,32 @@
+-- `frontier::visit_acquire` meets its contract: the earlier of two acquires is an event, since f is one.
+-- Assumes nothing.
+use Prim.Native.Nat.{◌≤◌}
+use mathlib.Core.Path.{sym, ◌∙◌}
+use native.Mathlib.Omega.{arith}
+use Rattle.laws.proofs.Trace.{decode_all-length}
+use Rattle.frontier.proofs.Leaves.{wanted_earlier-none, wanted_earlier_some}
+use Rattle.frontier.proofs.visit_acquire.Goals as goal
+
+pub returns-then-top-eq0 : goal.returns-then-top-eq0
+returns-then-top-eq0 c =
+    rw (← c.object-l.ensures.1)
+    (record { wanted = sym (wanted_earlier-none _ _ _ _ c.if-top-eq0.true); latest = c.raise.ensures })
+
+pub want_match-requires : goal.want_match-requires
+want_match-requires c =
+    let event : (1 ≤ c.earlier.result) × (c.earlier.result ≤ c.args.f) =
+    omega (arith, c.earlier.ensures, c.if-top-eq0.false, c.requires.0) in (
+      event.0,
+      omega (arith, event, c.requires.1),
+      omega (arith, event, c.requires.2),
+      c.requires.3 _ event.0 (omega (arith, event, c.requires.1, decode_all-length c.args.records.now)),
+      c.requires.4,
+    )
+
+pub returns : goal.returns
+returns c =
+    rw (← c.object-l.ensures.1) (record {
+      wanted = c.want_match.ensures
+          ∙ sym (wanted_earlier_some _ _ _ _ c.if-top-eq0.false c.earlier.ensures);
+      latest = c.raise.ensures;
+    })
