@@ -117,6 +117,7 @@ row-none ws i b q = rw (q, le-ltb i 0 (omega arith)) (row_clear 64 (replicate 64
 -- The row of events to e with event e put in where it passes is that of the events to the next.
 pub row_more : (p : ℕ → Bool) (e i : ℕ) → 1 ≤ e
     → ((ltb i (e - 1) && p (suc i)) || (eqb (e - 1) i && p e)) ≡ (ltb i e && p (suc i))
+row_more p zero i h = elim h [ ]
 row_more p (suc d) i h =
     let back : suc d - 1 ≡ d = omega arith in
     rw back (⊎_elim (λ q. rw (q, eq-eqb i i refl, le-ltb i i (omega arith), lt-ltb i (suc i) (omega arith)))

@@ -1,0 +1,72 @@
+-- `closure::close_set` meets its contract: the events before and after are counted, and the bytes are those
+-- of the closure. Assumes nothing.
+use Prim.Native.Nat.{◌-◌, ◌*◌, ◌≤◌}
+use mathlib.Core.Path.{◌≡◌, ap₂, ◌∙◌}
+use native.Mathlib.Omega.{arith}
+use lib.ListN.{length}
+use Rattle.model.specs.Recording.{decode_all}
+use Rattle.model.specs.EventSet.{members, lent_set}
+use Rattle.model.specs.Closure.{closure}
+use Rattle.laws.proofs.Trace.{decode_all-length}
+use Rattle.closure.proofs.Steps.{count_lent, members_grow, count_closed, bytes_closed}
+use Rattle.closure.proofs.close_set.Goals as goal
+use Rattle.closure.proofs.close_set.Goals.{After-slice_known-2-1}
+
+-- The lent set's events are counted,
+before : (c : goal.After-slice_known-2-1)
+    → let σ = decode_all c.args.records.now in
+    c.count-before.result ≡ length (members σ (lent_set σ c.args.set.now))
+before c =
+    let p = c.pack in
+    let σ = decode_all c.args.records.now in
+    let small : length σ ≤ 64 * length p.new.words =
+    omega (arith, c.requires.0, decode_all-length c.args.records.now, p.auto.words) in
+    c.count-before.ensures ∙ count_lent σ c.args.set.now p.new.words p.ensures c.requires.3 _ small
+
+-- and those of its closure.
+after : (c : goal.After-slice_known-2-1)
+    → let σ = decode_all c.args.records.now in
+    c.count-after.result ≡ length (members σ (closure σ (lent_set σ c.args.set.now)))
+after c =
+    let q = c.put_behind in
+    let r = c.reach in
+    let p = c.pack in
+    let σ = decode_all c.args.records.now in
+    let small : length σ ≤ 64 * length q.new.words = omega (
+      arith,
+      c.requires.0,
+      decode_all-length c.args.records.now,
+      q.auto.words,
+    ) in
+    c.count-after.ensures
+    ∙ count_closed σ c.args.set.now p.new.words p.ensures r.new.front q.new.words
+    r.ensures q.ensures _ small
+
+pub pack-requires : goal.pack-requires
+pack-requires c =
+    omega (arith, c.requires.0, c.requires.2, decode_all-length c.args.records.now)
+
+pub unpack-requires : goal.unpack-requires
+unpack-requires c =
+    omega (
+      arith,
+      c.requires.0,
+      c.requires.2,
+      decode_all-length c.args.records.now,
+      c.put_behind.auto.words,
+    )
+
+pub overflow_sub-result : goal.overflow_sub-result
+overflow_sub-result c =
+    let grow = members_grow (decode_all c.args.records.now) c.args.set.now in
+    omega (arith, before (goal.at.overflow_sub-result c).After-slice_known-2-1, after (goal.at.overflow_sub-result c).After-slice_known-2-1, grow)
+
+pub returns : goal.returns
+returns c =
+    let s = c in
+    let set = s.args.set.now in
+    let bytes = c.unpack.new.set in
+    let long : length bytes ≡ length set = c.unpack.auto.set in record { answer = ap₂ ◌-◌ (after (goal.at.returns c).After-slice_known-2-1) (before (goal.at.returns c).After-slice_known-2-1); output = bytes_closed (decode_all s.args.records.now) set c.pack.new.words c.pack.ensures
+          c.reach.new.front c.put_behind.new.words c.reach.ensures
+          c.put_behind.ensures bytes (long ∙ s.requires.2) (λ k. (c.slice_known-2-1.given k).fits)
+          (λ i h. c.unpack.ensures i (omega (arith, long))) }

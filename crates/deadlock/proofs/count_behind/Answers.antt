@@ -1,0 +1,59 @@
+-- `deadlock::count_behind` meets its contract: the events passed are counted. Assumes nothing.
+use Prim.Native.Nat.{ℕ, ◌+◌, ◌-◌}
+use mathlib.Core.Path.{◌≡◌, sym, ap, ◌∙◌}
+use mathlib.Core.List.{◌∷◌, []}
+use native.Mathlib.Omega.{arith}
+use lib.ListN.{length, length-append}
+use Rattle.model.specs.Recording.{decode_all}
+use Rattle.laws.proofs.Trace.{decode_all-length}
+use Rattle.deadlock.specs.Judged.{behind_below}
+use Rattle.deadlock.proofs.Written.{behind_more, behind_same, behind-count}
+use Rattle.deadlock.proofs.count_behind.Goals as goal
+use Rattle.deadlock.proofs.count_behind.Goals.{then-contains, else-contains}
+
+pub overflow_add-count : goal.overflow_add-count
+overflow_add-count c =
+    let k = c.loop-e in
+    omega (
+      arith,
+      k.invariant.2,
+      behind-count (decode_all c.args.records.now) c.args.front.now k.e
+          k.invariant.0,
+      c.loop-e-test.true,
+      c.requires.0,
+    )
+
+pub loop-e-preserved : goal.loop-e-preserved
+loop-e-preserved c =
+    let k = c.loop-e in
+    let σ = decode_all c.args.records.now in
+    let front = c.args.front.now in
+    let is = c.contains.ensures in
+    let old = behind_below σ front k.e in (
+      omega arith,
+      omega (arith, c.loop-e-test.true),
+      elim c.if-contains.branch [
+      | then-contains w ↦ w.count-is ∙ omega (
+          arith,
+          k.invariant.2,
+          ap length (behind_more σ front k.e k.invariant.0 (sym is ∙ w.if-contains.true)),
+          length-append old (k.e ∷ []),
+        )
+      | else-contains w ↦ w.count-is ∙ k.invariant.2 ∙ ap length (sym (behind_same σ front k.e k.invariant.0
+        (sym is ∙ w.if-contains.false)))
+      ],
+    )
+
+pub returns : goal.returns
+returns c =
+    let k = c.loop-e in
+    let σ = decode_all c.args.records.now in
+    let last : k.e ≡ length σ + 1 = omega (
+      arith,
+      c.loop-e-test.false,
+      decode_all-length
+          c.args.records.now,
+    ) in (
+      omega (arith, k.invariant.2, behind-count σ c.args.front.now k.e k.invariant.0, c.requires.0),
+      k.invariant.2 ∙ ap (λ (e : ℕ). length (behind_below σ c.args.front.now e)) last,
+    )

@@ -1,0 +1,31 @@
+-- `deadlock::joins` meets its contract: each return cites the law of its case. Assumes nothing.
+use mathlib.Core.Path.{◌∙◌}
+use native.Mathlib.Omega.{arith}
+use Rattle.model.specs.Recording.{decode_all}
+use Rattle.laws.specs.Chain.{chain_of}
+use Rattle.laws.proofs.Trace.{decode_all-length, is_event_true, is_event_false}
+use Rattle.deadlock.proofs.Chains.{joins_early, joins_past, joins_fit}
+use Rattle.deadlock.proofs.joins.Goals as goal
+
+pub returns-then-e-a : goal.returns-then-e-a
+returns-then-e-a c =
+    let a = c.args in
+    joins_early (decode_all a.records.now) (chain_of a.a a.last a.tasks a.guards) a.e
+    (omega (arith, c.if-e-a.true))
+
+pub returns-then-records-e : goal.returns-then-records-e
+returns-then-records-e c =
+    let a = c.args in
+    let size = decode_all-length a.records.now in
+    joins_past (decode_all a.records.now) (chain_of a.a a.last a.tasks a.guards) a.e
+    (is_event_false _ a.e (λ h. omega (arith, c.if-records-e.true)))
+
+pub returns : goal.returns
+returns c =
+    let a = c.args in
+    let size = decode_all-length a.records.now in
+    let later = c.if-e-a.false in
+    let low = c.if-records-e.false in
+    c.follows.ensures
+    ∙ joins_fit (decode_all a.records.now) (chain_of a.a a.last a.tasks a.guards) a.e
+    (is_event_true _ a.e (omega arith) (omega arith)) (omega arith)

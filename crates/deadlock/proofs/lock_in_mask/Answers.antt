@@ -1,0 +1,11 @@
+-- `deadlock::lock_in_mask` meets its contract: the mask's bit of the event's lock. Assumes nothing.
+use Rattle.model.specs.Recording.{decode_all}
+use Rattle.laws.proofs.WellFormed.{acquire_lt}
+use Rattle.laws.proofs.Questions.{events_sound}
+use Rattle.deadlock.proofs.lock_in_mask.Goals as goal
+
+pub in_mask-requires : goal.in_mask-requires
+in_mask-requires c =
+    let b = c.args.records.now in
+    let lock = acquire_lt (decode_all b) (events_sound b c.requires.2) c.args.e c.requires.3 in
+    rw c.object.ensures.1 lock

@@ -1,0 +1,60 @@
+-- `deadlock::write_behind` meets its contract: the events passed are written. Assumes nothing.
+use Prim.Native.Nat.{ℕ, ◌+◌, ◌-◌}
+use mathlib.Core.Path.{◌≡◌, ap, ◌∙◌}
+use native.Mathlib.Omega.{arith}
+use lib.ListN.{length}
+use lib.Seq.{sets}
+use Rattle.model.specs.Bytes.{encode}
+use Rattle.model.specs.Recording.{decode_all}
+use Rattle.laws.proofs.Bytes.{encode-length}
+use Rattle.laws.proofs.Trace.{decode_all-length}
+use Rattle.deadlock.specs.Judged.{behind_below}
+use Rattle.deadlock.proofs.Written.{behind_mono, written_at, written_more}
+use Rattle.deadlock.proofs.write_behind.Goals as goal
+
+pub write_one-at-requires : goal.write_one-at-requires
+write_one-at-requires c =
+    let k = c.loop-e in
+    let σ = decode_all c.args.records.now in
+    let front = c.args.front.now in
+    let size = decode_all-length c.args.records.now in
+    let inside = c.loop-e-test.true in (
+      k.invariant.0,
+      omega arith,
+      omega (arith, c.requires.0),
+      c.requires.1,
+      omega (
+        arith,
+        written_at σ front k.e k.invariant.0 k.out k.at k.invariant.3,
+        encode-length (behind_below σ front (k.e + 1)),
+        behind_mono σ front (k.e + 1) (length σ + 1) (omega arith),
+        c.requires.2,
+        k.invariant.2,
+      ),
+    )
+
+pub loop-e-preserved : goal.loop-e-preserved
+loop-e-preserved c =
+    let k = c.loop-e in
+    let σ = decode_all c.args.records.now in
+    let front = c.args.front.now in
+    let w = c.write_one-at.ensures in (
+      omega arith,
+      omega (arith, c.loop-e-test.true),
+      c.write_one-at.auto.out ∙ k.invariant.2,
+      w.0 ∙ written_at σ front k.e k.invariant.0 k.out k.at k.invariant.3,
+      w.1 ∙ rw k.invariant.4 (written_more σ front k.e k.invariant.0 c.args.out.now k.at k.invariant.3),
+    )
+
+pub returns : goal.returns
+returns c =
+    let k = c.loop-e in
+    let σ = decode_all c.args.records.now in
+    let last : k.e ≡ length σ + 1 = omega (
+      arith,
+      c.loop-e-test.false,
+      decode_all-length
+          c.args.records.now,
+    ) in
+    k.invariant.4 ∙ ap (λ (e : ℕ). sets c.args.out.now 0 (encode (behind_below σ c.args.front.now e)))
+    last
