@@ -1,0 +1,13 @@
+-- `pruning::mark_blocks` meets its contract: the blocks of the events before the next one are marked. Assumes
+-- nothing.
+use lib.ListN.{length}
+use Rattle.model.specs.Recording.{decode_all}
+use Rattle.laws.proofs.Firsts.{to_visit}
+use Rattle.pruning.proofs.Blocks.{Marking}
+use Rattle.pruning.proofs.mark_blocks.Given as goal
+
+abbrev pub invariant-loop-e : goal.invariant-loop-e
+invariant-loop-e l = Marking (decode_all l.records) l.blocks l.e
+
+abbrev pub decreases-loop-e : goal.decreases-loop-e
+decreases-loop-e l = to_visit (length (decode_all l.records)) l.e
