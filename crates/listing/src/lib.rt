@@ -55,7 +55,7 @@ fn deliver(
     }
     let bytes = found.bytes;
     if bytes <= 65536 {
-        bytes::copy(&buffer[..bytes], out);
+        out[..bytes].copy_from_slice(&buffer[..bytes]);
         return found;
     }
     search::search_all(

@@ -1,0 +1,32 @@
+-- `timed::timed_verdicts` is safe and ends: the part after the header of an accepted recording is handed on.
+-- Assumes nothing.
+use mathlib.Core.Path.{◌≡◌, sym, ap, ◌∙◌}
+use borrow.Author.Rules.{rules}
+use Rattle.model.specs.declared.Outcome.{Outcome}
+use Rattle.model.specs.Calls.Check.{check}
+use Rattle.laws.proofs.Questions.{check_bytes, part_small, part_accepted}
+use Rattle.timed.proofs.timed_verdicts.Goals as goal
+use Rattle.timed.proofs.timed_verdicts.Goals.{Else-checked-ne0}
+
+-- The recording is accepted.
+accepted : (c : goal.Else-checked-ne0) → (check c.args.recording.now
+    ).refusal ≡ 0
+accepted c = sym (ap (λ (o : Outcome). o.refusal) c.check-checked.ensures) ∙ c.if-checked-ne0.false
+
+pub slice_bounds-decide_with_tables-count : goal.slice_bounds-decide_with_tables-count
+slice_bounds-decide_with_tables-count c = (check_bytes c.args.recording.now
+    (accepted (goal.at.slice_bounds-decide_with_tables-count c).Else-checked-ne0)).0
+
+pub slice_bounds-decide_with_tables-start : goal.slice_bounds-decide_with_tables-start
+slice_bounds-decide_with_tables-start c =
+    let h = (check_bytes c.args.recording.now (accepted (goal.at.slice_bounds-decide_with_tables-start c).Else-checked-ne0)).0
+    in search rules
+
+pub decide_with_tables-requires : goal.decide_with_tables-requires
+decide_with_tables-requires c =
+    let ok = accepted (goal.at.decide_with_tables-requires c).Else-checked-ne0 in (
+      part_small c.args.recording.now ok
+          (c.shared_slice_known-1.given 1).fits,
+      part_accepted
+          c.args.recording.now ok,
+    )
