@@ -84,7 +84,7 @@ close_set-added-requires c =
     let b = c.args.recording.now in
     let ok = accepted (goal.at.close_set-added-requires c).Else-checked-ne0 in
     let yes = sym (is-clear (goal.at.close_set-added-requires c).After-spare_clear) ∙ c.if-not-spare_clear.false in (
-      part_small b ok (c.shared_slice_known-1.given 1).fits,
+      part_small b ok (c.type_inv.recording 1).fits,
       part_accepted b ok,
       rw (part-trace b) (sized (goal.at.close_set-added-requires c).Else-set-n),
       rw (part-trace b, yes) tt,

@@ -33,8 +33,7 @@ pub judge-decided-requires : goal.judge-decided-requires
 judge-decided-requires c =
     let b = c.args.recording.now in
     let ok = accepted (goal.at.judge-decided-requires c).Else-checked-ne0 in (
-      part_small b ok (c.shared_slice_known-1.given 1
-          ).fits,
+      part_small b ok (c.type_inv.recording 1).fits,
       part_accepted b ok,
       refl,
     )

@@ -31,9 +31,8 @@ slice_bounds-witness_records-start c = let h = (check_bytes _ (accepted (goal.at
 
 pub witness_records-requires : goal.witness_records-requires
 witness_records-requires c =
-    let known = c.shared_slice_known-1 in
     let ok = accepted (goal.at.witness_records-requires c).Else-checked-ne0 in
-    (part_small _ ok (known.given 1).fits, part_accepted _ ok)
+    (part_small _ ok (c.type_inv.recording 1).fits, part_accepted _ ok)
 
 pub returns : goal.returns
 returns c =

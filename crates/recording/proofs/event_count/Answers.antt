@@ -14,7 +14,7 @@ returns c =
     let b = c.args.recording.now in
     let hi = get_or b 0 0 in
     let lo = get_or b 1 0 in
-    let small : lo < 256 = (c.shared_slice_known-2-1.given 1).fits in
+    let small : lo < 256 = (c.type_inv.recording 1).fits in
     let is : bit_or (bit_and hi 15 * 256 % 18446744073709551616) lo ≡ hi % 16 * 256 + lo =
     low_unpacked 4 64 hi lo small (omega arith) in
     (omega arith, is)

@@ -8,7 +8,7 @@ use Rattle.recording.proofs.number.Goals as goal
 pub returns : goal.returns
 returns c =
     let a = c.args in
-    let known = c.shared_slice_known-2-1.given in
+    let known = c.type_inv.bytes in
     number_unpacked (get_or a.bytes.now (2 * a.i) 0) (get_or a.bytes.now (2 * a.i + 1) 0)
     (known (2 * a.i)).fits (known (2 * a.i + 1)).fits
     ∙ sym (numbers-at a.bytes.now a.i c.requires)

@@ -13,7 +13,7 @@ returns c =
     let p = c.requires in
     let hi = get_or a.records.now (2 * (a.e - 1)) 0 in
     let lo = get_or a.records.now (2 * (a.e - 1) + 1) 0 in
-    let small : lo < 256 = (c.shared_slice_known-2-1.given (2 * (a.e - 1) + 1)).fits in
+    let small : lo < 256 = (c.type_inv.records (2 * (a.e - 1) + 1)).fits in
     let is : bit_or (bit_and hi 3 * 256 % 65536) lo ≡ hi % 4 * 256 + lo = low_unpacked 2 16 hi lo small
     (omega arith) in
     (omega arith, is ∙ record-object a.records.now a.e p.0 p.1)

@@ -8,6 +8,6 @@ use Rattle.recording.proofs.operation.Goals as goal
 pub returns : goal.returns
 returns c =
     let a = c.args in (
-      omega (arith, c.shared_slice_known-1.given (2 * (a.e - 1))),
+      omega (arith, c.type_inv.records (2 * (a.e - 1))),
       record_op a.records.now a.e c.requires.0 c.requires.1,
     )

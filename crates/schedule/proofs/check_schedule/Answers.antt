@@ -35,7 +35,7 @@ pub judge-decided-requires : goal.judge-decided-requires
 judge-decided-requires c =
     let ok = accepted (goal.at.judge-decided-requires c).Else-checked-ne0 in (
       part_small c.args.recording.now ok
-          (c.shared_slice_known-1.given 1).fits,
+          (c.type_inv.recording 1).fits,
       part_accepted c.args.recording.now
           ok,
     )

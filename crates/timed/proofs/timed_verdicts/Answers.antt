@@ -26,7 +26,7 @@ pub decide_with_tables-requires : goal.decide_with_tables-requires
 decide_with_tables-requires c =
     let ok = accepted (goal.at.decide_with_tables-requires c).Else-checked-ne0 in (
       part_small c.args.recording.now ok
-          (c.shared_slice_known-1.given 1).fits,
+          (c.type_inv.recording 1).fits,
       part_accepted
           c.args.recording.now ok,
     )

@@ -8,7 +8,7 @@ use Rattle.words.proofs.count.Goals as goal
 pub loop-k-preserved : goal.loop-k-preserved
 loop-k-preserved c =
     let k = c.loop-k in
-    let small = (c.shared_slice_known-1.given k.k).fits in
+    let small = (c.type_inv.words k.k).fits in
     let most = ones-le 64 _ small in
     let ws = c.args.words.now in
     (omega arith, omega arith, count_more ws k.sum k.k small k.invariant.2)

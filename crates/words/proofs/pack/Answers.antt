@@ -9,7 +9,7 @@ use Rattle.words.proofs.pack.Goals as goal
 pub loop-k-preserved : goal.loop-k-preserved
 loop-k-preserved c =
     let k = c.loop-k in
-    let byte = (c.shared_slice_known-in-loop-k-1.given k.k).fits in (
+    let byte = (c.type_inv.set k.k).fits in (
       search rules,
       length-set k.words (k.k / 8) _ ∙ k.invariant.1,
       packed_more c.args.set.now k.words k.k byte (search rules) k.invariant.2,

@@ -1,0 +1,55 @@
+-- `listing::search::search_first` meets its contract: an acquire whose lock does not lead back begins
+-- nothing. Assumes nothing.
+use mathlib.Core.Path.{refl, sym, ◌∙◌}
+use native.Mathlib.Omega.{arith}
+use Rattle.model.specs.Trace.{is_acquire}
+use Rattle.model.specs.Recording.{decode_all}
+use Rattle.laws.proofs.Tests.{is_true}
+use Rattle.laws.proofs.Questions.{events_sound}
+use Rattle.laws.proofs.Extensions.{beginning_acquire}
+use Rattle.laws.proofs.Returning.{leading-all}
+use Rattle.entries.proofs.Laws.{adds_none}
+use Rattle.listing.proofs.Beginnings.{beginning_nowhere}
+use Rattle.listing.proofs.search.search_first.Goals as goal
+
+pub leads_back-requires : goal.leads_back-requires
+leads_back-requires c =
+    let b = c.args.records.now in (
+      c.requires.2,
+      c.requires.3,
+      c.requires.0.short,
+      c.requires.0.accepted,
+      c.requires.0.holds,
+      c.requires.4,
+      leading-all (decode_all b) (events_sound b c.requires.0.accepted) c.args.a c.args.lead.now c.requires.1,
+      refl,
+      omega (arith, c.requires.5),
+      c.requires.6,
+    )
+
+pub returns-then-not-leads_back : goal.returns-then-not-leads_back
+returns-then-not-leads_back c =
+    let b = c.args.records.now in
+    let back = c.leads_back.ensures in (
+      c.requires.8,
+      rw (beginning_nowhere (decode_all b) c.args.a c.args.largest _ c.requires.4 c.requires.5 back.0
+          (sym back.1 ∙ c.if-not-leads_back.true)) (adds_none c.args.room _ c.args.found),
+    )
+
+pub returns-then-not-leads_back-2 : goal.returns-then-not-leads_back-2
+returns-then-not-leads_back-2 c =
+    let b = c.args.records.now in
+    let back = c.leads_back-2.ensures in (
+      c.requires.8,
+      rw (beginning_nowhere (decode_all b) c.args.a c.args.largest _ c.requires.4 c.requires.5 back.0
+          (sym back.1 ∙ c.if-not-leads_back-2.true)) (adds_none c.args.room _ c.args.found),
+    )
+
+pub returns : goal.returns
+returns c =
+    let b = c.args.records.now in
+    let done = c.begin.ensures in (
+      done.0,
+      rw (beginning_acquire (decode_all b) _ c.args.a (is_true (is_acquire (decode_all b) c.args.a) c.requires.4))
+          done.1,
+    )
