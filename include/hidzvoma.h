@@ -1,6 +1,7 @@
 /* Hidzvoma's entries for C and C++: the deadlocks that another timing of a recording's tasks would reach.
- * Link target/staticlib/libhidzvoma.a, which `rt staticlib hidzvoma` proves and writes for x86-64 Linux; it
- * needs memcpy and memset of the C library and nothing else. examples/linker.c is a program that does so.
+ * Link target/staticlib/libhidzvoma.a, which `tools/build library hidzvoma` proves and writes for x86-64 Linux
+ * (processors of x86-64-v2, with SSE4.2); it needs memcpy and memset of the C library and nothing else.
+ * examples/linker.c is a program that does so.
  *
  * A recording is a header of two bytes, the format, 1, in 4 bits and the number of events, 0 to 4,095, in 12,
  * and then two bytes for each event: operation in 2 bits (0 read, 1 write, 2 acquire, 3 release), task in 4,

@@ -1,4 +1,5 @@
-// Links the calls to be measured: `rt staticlib timed` and `rt staticlib hidzvoma` write the archives.
+// Links the calls to be measured: `tools/build library timed` and `tools/build library hidzvoma` write the
+// archives.
 fn main() {
     let root = std::env::var("CARGO_MANIFEST_DIR").unwrap();
     println!("cargo:rustc-link-search=native={root}/../../target/staticlib");
