@@ -1,6 +1,6 @@
 -- The marks among the matches, by which the records of acquires and releases that do not count are told from
 -- outer ones. How the table of matches is filled is in Matches. Assumes nothing.
-use Prim.Native.Nat.{ℕ, ◌-◌, ◌≤◌}
+use Prim.Native.Nat.{ℕ, ◌≤◌}
 use mathlib.Core.Path.{◌≡◌, refl, sym, ◌∙◌}
 use mathlib.Core.Logic.{⊎_elim, ◌≢◌}
 use mathlib.Core.Bool.{true, false, cond, not, ◌&&◌}

@@ -1,6 +1,6 @@
 -- Laws of starts and joins that hold of any trace. What well-formedness adds is in TaskOrder. Assumes
 -- nothing.
-use Prim.Native.Nat.{ℕ, ◌+◌, ◌-◌, ◌≤◌, ◌<◌}
+use Prim.Native.Nat.{ℕ, ◌+◌, ◌≤◌, ◌<◌}
 use mathlib.Core.Path.{◌≡◌}
 use mathlib.Core.Logic.{◌⊎◌, inl, inr, ⊎_elim, ◌↔◌}
 use mathlib.Core.Bool.{false, not, ◌&&◌, ◌||◌, and-false}

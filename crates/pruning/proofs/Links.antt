@@ -10,7 +10,7 @@ use lib.Dec.{T, eqb}
 use lib.ListN.{length, get_or, set, length-set}
 use lib.Seq.{get_or-set_same, get_or-set_other}
 use borrow.Author.Tests.{ne_eqb, eqb-true}
-use Rattle.model.specs.Trace.{Trace, at, object, is_acquire}
+use Rattle.model.specs.Trace.{Trace, object, is_acquire}
 use Rattle.model.specs.Relations.{held}
 use Rattle.laws.specs.Sizes.{table_length}
 use Rattle.laws.specs.Chain.{Chain, signature, fits}

@@ -1,6 +1,6 @@
 -- How the check goes on from event to event: that a task is over is asked last, and the first fault decides.
 -- Assumes nothing.
-use Prim.Native.Nat.{ℕ, ◌+◌, ◌-◌, ◌/◌, ◌≤◌, ◌<◌}
+use Prim.Native.Nat.{ℕ, ◌+◌, ◌/◌, ◌≤◌, ◌<◌}
 use mathlib.Core.Path.{◌≡◌, sym, ◌∙◌}
 use mathlib.Core.Logic.{⊎_elim, ◌≢◌}
 use mathlib.Core.Bool.{true, false, cond, not, ◌||◌}
@@ -10,7 +10,7 @@ use native.Mathlib.Omega.{arith}
 use lib.Dec.{not_T, eqb}
 use lib.ListN.{length, get_or, set, replicate, length-set, length-replicate}
 use borrow.Author.Tests.{eq-eqb, ne_eqb}
-use Rattle.model.specs.Trace.{Trace, tasks, locks, variables, at, task, object, is_write}
+use Rattle.model.specs.Trace.{Trace, tasks, locks, variables, task, object, is_write}
 use Rattle.model.specs.Tasks.{is_start, is_join, target}
 use Rattle.model.specs.Recording.{decode_all}
 use Rattle.model.specs.WellFormed.{is_over, fault}

@@ -8,7 +8,7 @@ use native.Mathlib.Omega.{arith}
 use lib.Dec.{eqb}
 use lib.Count.{ones, ones-le}
 use lib.ListN.{length, get_or, replicate, length-replicate}
-use Rattle.model.specs.Trace.{Trace, tasks, locks, variables, at, task, object, is_write, is_acquire}
+use Rattle.model.specs.Trace.{Trace, tasks, locks, variables, task, object, is_write, is_acquire}
 use Rattle.model.specs.Recording.{decode_all}
 use Rattle.model.specs.Relations.{predecessor, held}
 use Rattle.model.specs.declared.Relations.{Relations}

@@ -1,6 +1,6 @@
 -- What the tables tell of an event is what the definitions say: whether its lock is clear, and whether it may
 -- be listed next. What listing it does to the tables is in Noting. Assumes nothing.
-use Prim.Native.Nat.{ℕ, ◌-◌, ◌≤◌, ◌<◌}
+use Prim.Native.Nat.{ℕ, ◌≤◌, ◌<◌}
 use mathlib.Core.Path.{◌≡◌, sym, ◌∙◌}
 use mathlib.Core.Logic.{⊎_elim, ◌↔◌, ◌≢◌}
 use mathlib.Core.Bool.{true, false, ◌&&◌}
@@ -9,7 +9,7 @@ use native.Mathlib.Omega.{arith}
 use lib.Dec.{T, not_T, eqb, eqb→eq}
 use lib.ListN.{length, get_or}
 use borrow.Author.Tests.{eq-eqb, ne_eqb, le-leb, lt-leb}
-use Rattle.model.specs.Trace.{Trace, locks, variables, at, object, is_read, is_acquire, same_object}
+use Rattle.model.specs.Trace.{Trace, locks, variables, object, is_read, is_acquire, same_object}
 use Rattle.model.specs.Tasks.{is_join}
 use Rattle.model.specs.Relations.{joined, writer, matching}
 use Rattle.model.specs.Schedule.{latest_write, may_follow}

@@ -11,7 +11,7 @@ use lib.ListN.{length, get_or, set, replicate, length-set, length-replicate}
 use lib.Seq.{get_or-set_same, get_or-set_other}
 use borrow.Author.Tests.{eq-eqb, ne_eqb, lt-leb}
 use Rattle.model.specs.Lists.{member}
-use Rattle.model.specs.Trace.{Trace, tasks, locks, variables, at, task, object}
+use Rattle.model.specs.Trace.{Trace, tasks, locks, variables, task, object}
 use Rattle.model.specs.Trace.{is_write, is_acquire, same_object}
 use Rattle.model.specs.Relations.{matching}
 use Rattle.model.specs.Schedule.{latest_write, may_follow}

@@ -1,6 +1,6 @@
 -- What the tables tell of an event's task is what the definitions say: whether an event is listed, is
 -- enabled, and whether what it awaits is listed. Assumes nothing.
-use Prim.Native.Nat.{ℕ, ◌-◌, ◌≤◌, ◌<◌}
+use Prim.Native.Nat.{ℕ, ◌≤◌, ◌<◌}
 use mathlib.Core.Path.{◌≡◌, sym}
 use mathlib.Core.Logic.{⊎_elim, ◌↔◌, ◌≢◌}
 use mathlib.Core.List.{List, Memᴰ}
@@ -8,7 +8,7 @@ use native.Mathlib.Omega.{arith}
 use lib.Dec.{T, leb→le, le→leb}
 use lib.ListN.{length, get_or}
 use borrow.Author.Tests.{eq-eqb, ne_eqb}
-use Rattle.model.specs.Trace.{Trace, at, task}
+use Rattle.model.specs.Trace.{Trace, task}
 use Rattle.model.specs.Relations.{predecessor, joined}
 use Rattle.model.specs.Schedule.{enabled}
 use Rattle.laws.proofs.Tests.{T-ext, equal?, at-most?}

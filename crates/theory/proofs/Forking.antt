@@ -1,6 +1,6 @@
 -- Request 1 holds: what 15 and 16 refuse keeps starts before and joins after the events of their task, and
 -- schedules, next events and closed sets ask for them. Assumes nothing.
-use Prim.Native.Nat.{ℕ, suc, ◌+◌, ◌≤◌, ◌<◌}
+use Prim.Native.Nat.{ℕ, suc, ◌≤◌, ◌<◌}
 use mathlib.Core.Path.{◌≡◌, refl, ◌∙◌}
 use mathlib.Core.Logic.{◌⊎◌, inl, inr, ⊎_elim, ◌↔◌, ◌≢◌}
 use mathlib.Core.Bool.{false, ◌||◌}

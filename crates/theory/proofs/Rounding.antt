@@ -1,6 +1,6 @@
 -- Request 8 holds: the rest of the division decides between the quotient and the next number, and of two
 -- neighbours at the half only one is even. Assumes nothing.
-use Prim.Native.Nat.{ℕ, ◌+◌, ◌-◌, ◌*◌, ◌/◌, ◌%◌, ◌≤◌, ◌<◌}
+use Prim.Native.Nat.{ℕ, ◌+◌, ◌*◌, ◌/◌, ◌%◌, ◌≤◌, ◌<◌}
 use mathlib.Core.Path.{◌≡◌}
 use mathlib.Core.Logic.{◌≢◌, ⊎_elim}
 use native.Mathlib.Nat.{mod-lt, div-add-mod', add-mul, one-mul, mul-le-mul_right}

@@ -1,6 +1,6 @@
 -- `chain::avoids_path` meets its contract: while no event before is in the set, the rest decides. Assumes
 -- nothing.
-use Prim.Native.Nat.{ℕ, ◌-◌, ◌<◌}
+use Prim.Native.Nat.{ℕ, ◌<◌}
 use mathlib.Core.Path.{◌≡◌, sym, ap}
 use mathlib.Core.Bool.{not}
 use native.Mathlib.Omega.{arith}

@@ -10,13 +10,12 @@ use Rattle.closure.proofs.Sets.{row-none}
 use Rattle.closure.proofs.put_behind.Goals as goal
 
 pub loop-e-init : goal.loop-e-init
-loop-e-init c =
-    (
-      omega arith,
-      omega arith,
-      ap length c.requires.2,
-      λ i. row-none c.args.words.now i _ c.requires.2,
-    )
+loop-e-init c = (
+  omega arith,
+  omega arith,
+  ap length c.requires.2,
+  λ i. row-none c.args.words.now i _ c.requires.2,
+)
 
 pub returns : goal.returns
 returns c =

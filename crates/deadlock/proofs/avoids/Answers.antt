@@ -1,6 +1,5 @@
 -- `deadlock::avoids` meets its contract: while no number before is in the set, the rest decides. Assumes
 -- nothing.
-use Prim.Native.Nat.{◌-◌}
 use mathlib.Core.Path.{ap}
 use mathlib.Core.Bool.{not}
 use native.Mathlib.Omega.{arith}

@@ -1,5 +1,5 @@
 -- `deadlock::count_behind` meets its contract: the events passed are counted. Assumes nothing.
-use Prim.Native.Nat.{ℕ, ◌+◌, ◌-◌}
+use Prim.Native.Nat.{ℕ, ◌+◌}
 use mathlib.Core.Path.{◌≡◌, sym, ap, ◌∙◌}
 use mathlib.Core.List.{◌∷◌, []}
 use native.Mathlib.Omega.{arith}
@@ -33,14 +33,14 @@ loop-e-preserved c =
       omega arith,
       omega (arith, c.loop-e-test.true),
       elim c.if-contains.branch [
-      | then-contains w ↦ w.count-is ∙ omega (
+        | then-contains w ↦ w.count-is ∙ omega (
           arith,
           k.invariant.2,
           ap length (behind_more σ front k.e k.invariant.0 (sym is ∙ w.if-contains.true)),
           length-append old (k.e ∷ []),
         )
-      | else-contains w ↦ w.count-is ∙ k.invariant.2 ∙ ap length (sym (behind_same σ front k.e k.invariant.0
-        (sym is ∙ w.if-contains.false)))
+        | else-contains w ↦ w.count-is ∙ k.invariant.2 ∙ ap length (sym (behind_same σ front k.e k.invariant.0
+            (sym is ∙ w.if-contains.false)))
       ],
     )
 

@@ -21,12 +21,11 @@ pattern-lent : (c : goal.Else-not-lends_pattern)
 pattern-lent c = sym c.lends_pattern.ensures ∙ c.if-not-lends_pattern.false
 
 pub returns-then-not-lends_pattern : goal.returns-then-not-lends_pattern
-returns-then-not-lends_pattern c =
-    (
-      judged-none (decode_all c.args.records.now) c.args.pattern.now
-          (sym c.lends_pattern.ensures ∙ c.if-not-lends_pattern.true),
-      λ q. absurd (omega arith),
-    )
+returns-then-not-lends_pattern c = (
+  judged-none (decode_all c.args.records.now) c.args.pattern.now
+      (sym c.lends_pattern.ensures ∙ c.if-not-lends_pattern.true),
+  λ q. absurd (omega arith),
+)
 
 pub reach-requires : goal.reach-requires
 reach-requires c =
@@ -40,12 +39,11 @@ reach-requires c =
     )
 
 pub avoids-requires : goal.avoids-requires
-avoids-requires c =
-    (
-      lent_events (decode_all c.args.records.now) c.args.pattern.now
-          (pattern-lent (goal.at.avoids-requires c).Else-not-lends_pattern),
-      c.reach.ensures.settled.front_ok.long,
-    )
+avoids-requires c = (
+  lent_events (decode_all c.args.records.now) c.args.pattern.now
+      (pattern-lent (goal.at.avoids-requires c).Else-not-lends_pattern),
+  c.reach.ensures.settled.front_ok.long,
+)
 
 pub returns-then-avoids : goal.returns-then-avoids
 returns-then-avoids c =

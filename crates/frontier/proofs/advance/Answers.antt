@@ -1,6 +1,5 @@
 -- `frontier::advance` meets its contract: each turn brings the frontier on, and the tasks before t have
 -- nothing more to reach. Assumes nothing.
-use Prim.Native.Nat.{◌-◌}
 use native.Mathlib.Omega.{arith}
 use Rattle.model.specs.Recording.{decode_all}
 use Rattle.laws.proofs.Trace.{decode_all-length}

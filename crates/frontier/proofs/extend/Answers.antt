@@ -41,21 +41,19 @@ more c =
     ∙ ap (λ (x : ℕ). wanted σ c.args.front.now x) (noted (goal.at.After-want_event c).Start)
 
 pub want_event-requires : goal.want_event-requires
-want_event-requires c =
-    (
-      omega (arith, noted (goal.at.want_event-requires c).Start, known (goal.at.want_event-requires c).Start, decode_all-length c.args.records.now),
-      rw c.requires.4 c.requires.3.want_ok.long,
-    )
+want_event-requires c = (
+  omega (arith, noted (goal.at.want_event-requires c).Start, known (goal.at.want_event-requires c).Start, decode_all-length c.args.records.now),
+  rw c.requires.4 c.requires.3.want_ok.long,
+)
 
 pub advance-requires : goal.advance-requires
-advance-requires c =
-    (
-      c.requires.0,
-      c.requires.1,
-      c.requires.2,
-      rw (more (goal.at.advance-requires c).After-want_event) (settled-wanted _ (events_sound c.args.records.now c.requires.1) _ _ _ c.requires.3 _
-          (known (goal.at.advance-requires c).Start)),
-    )
+advance-requires c = (
+  c.requires.0,
+  c.requires.1,
+  c.requires.2,
+  rw (more (goal.at.advance-requires c).After-want_event) (settled-wanted _ (events_sound c.args.records.now c.requires.1) _ _ _ c.requires.3 _
+      (known (goal.at.advance-requires c).Start)),
+)
 
 pub returns : goal.returns
 returns c =

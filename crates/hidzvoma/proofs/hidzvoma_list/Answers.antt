@@ -21,14 +21,20 @@ returns-then-listed-ne0 c =
     let b = c.args.recording.now in
     let k = c.args.largest in
     let room = length c.args.out.now in
-    let done = c.list-listed.ensures in record { number = c.refused.ensures ∙ ap (λ (l : Listed). 2 * (65536 * l.refusal + l.event) + 1) done.answer
+    let done = c.list-listed.ensures in record {
+      number = c.refused.ensures ∙ ap (λ (l : Listed). 2 * (65536 * l.refusal + l.event) + 1) done.answer
           ∙ carries_refused (list_carries b k room) (rw done.answer at c.if-listed-ne0.true) _
-          ∙ list_entry_lem b k room; output = done.output }
+          ∙ list_entry_lem b k room;
+      output = done.output;
+    }
 
 pub returns : goal.returns
 returns c =
     let b = c.args.recording.now in
     let k = c.args.largest in
     let room = length c.args.out.now in
-    let done = c.list-listed.ensures in record { number = ap (λ (l : Listed). l.bytes) done.answer
-          ∙ carries_accepted (list_carries b k room) (rw done.answer at c.if-listed-ne0.false) _ ∙ list_entry_lem b k room; output = done.output }
+    let done = c.list-listed.ensures in record {
+      number = ap (λ (l : Listed). l.bytes) done.answer
+          ∙ carries_accepted (list_carries b k room) (rw done.answer at c.if-listed-ne0.false) _ ∙ list_entry_lem b k room;
+      output = done.output;
+    }

@@ -34,10 +34,10 @@ loop-e-preserved c =
       elim c.if-depth-ne0.branch [ then-depth-ne0 w ↦ omega arith | else-depth-ne0 w ↦ omega arith ],
       h,
       elim c.if-depth-ne0.branch [
-      | then-depth-ne0 w ↦
-          w.held-is ∙ counted σ k.e c.args.lock _ k.invariant.0 h k.held k.invariant.4 w.if-depth-ne0.true
-      | else-depth-ne0 w ↦
-          w.held-is ∙ uncounted σ k.e c.args.lock _ k.invariant.0 h k.held k.invariant.4 w.if-depth-ne0.false
+        | then-depth-ne0 w ↦
+            w.held-is ∙ counted σ k.e c.args.lock _ k.invariant.0 h k.held k.invariant.4 w.if-depth-ne0.true
+        | else-depth-ne0 w ↦
+            w.held-is ∙ uncounted σ k.e c.args.lock _ k.invariant.0 h k.held k.invariant.4 w.if-depth-ne0.false
       ],
     )
 

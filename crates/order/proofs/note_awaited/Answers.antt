@@ -1,8 +1,6 @@
 -- `order::note_awaited` meets its contract: each return cites the law of its case. Assumes nothing.
 use Rattle.order.proofs.Laws.{uncounted_noted, read_noted, write_noted, outer_noted}
 use borrow.Author.Rules.{rules}
-use Rattle.order.proofs.joined_of.Reads as joined-of-reads
-use Rattle.recording.proofs.object.Reads as object-reads
 use Rattle.order.proofs.note_awaited.Goals as goal
 
 pub returns-then-k-eq4 : goal.returns-then-k-eq4

@@ -4,8 +4,6 @@ use native.Mathlib.Omega.{arith}
 use Rattle.model.specs.Recording.{decode_all}
 use Rattle.laws.proofs.Questions.{events_sound}
 use Rattle.order.proofs.Laws.{WithObject, names-task, start_noted, lock_noted, other_noted, kind_noted}
-use Rattle.recording.proofs.object.Reads as object-reads
-use Rattle.recording.proofs.operation.Reads as operation-reads
 use Rattle.order.proofs.note_start.Goals as goal
 use Rattle.order.proofs.note_start.Goals.{After-object-o}
 

@@ -1,6 +1,5 @@
 -- `recording::ask_object` meets its contract: what is no lock's is a start or a join, or has no object.
 -- Assumes nothing.
-use Prim.Native.Nat.{◌-◌}
 use native.Mathlib.Omega.{arith}
 use Rattle.laws.proofs.Operations.{starts_is, joins_is}
 use Rattle.recording.proofs.Laws.{coming, no-object, target_is, started, joined}

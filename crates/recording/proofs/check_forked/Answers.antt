@@ -1,6 +1,5 @@
 -- `recording::check_forked` meets its contract: before each event the tables are those of the check, and no
 -- earlier event has a fault. Assumes nothing.
-use Prim.Native.Nat.{◌-◌}
 use borrow.Author.Rules.{rules}
 use Rattle.recording.proofs.Walk.{asked_refused, asked_passed}
 use Rattle.recording.proofs.check_forked.Goals as goal

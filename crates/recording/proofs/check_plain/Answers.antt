@@ -1,6 +1,5 @@
 -- `recording::check_plain` meets its contract: before each event the tables are those of the check, no
 -- earlier event has a fault, and none is a join. Assumes nothing.
-use Prim.Native.Nat.{◌-◌}
 use mathlib.Core.Path.{sym, ◌∙◌}
 use native.Mathlib.Omega.{arith}
 use borrow.Author.Rules.{rules}

@@ -1,6 +1,5 @@
 -- `relations::fill_tables` meets its contract: before each event the tables have the relations of the earlier
 -- ones. Assumes nothing.
-use Prim.Native.Nat.{◌-◌}
 use mathlib.Core.Path.{◌∙◌}
 use native.Mathlib.Omega.{arith}
 use borrow.Author.Rules.{rules}
@@ -9,8 +8,7 @@ use Rattle.relations.proofs.fill_tables.Goals as goal
 
 pub loop-e-init : goal.loop-e-init
 loop-e-init c =
-    let cleared = c.clear_starts in
-    (
+    let cleared = c.clear_starts in (
       omega arith,
       omega arith,
       noted-start _ _ _ _ _ _ _ _ (record {

@@ -21,13 +21,12 @@ pub returns-then-not-lends_pattern : goal.returns-then-not-lends_pattern
 returns-then-not-lends_pattern c = answered-none (decode_all c.args.records.now) c.args.pattern.now c.args.schedule.now (sym c.lends_pattern.ensures ∙ c.if-not-lends_pattern.true)
 
 pub witnessed-requires : goal.witnessed-requires
-witnessed-requires c =
-    (
-      c.requires.0,
-      c.requires.1,
-      c.requires.3,
-      lent_events (decode_all c.args.records.now) c.args.pattern.now (pattern-lent (goal.at.witnessed-requires c).Else-not-lends_pattern),
-    )
+witnessed-requires c = (
+  c.requires.0,
+  c.requires.1,
+  c.requires.3,
+  lent_events (decode_all c.args.records.now) c.args.pattern.now (pattern-lent (goal.at.witnessed-requires c).Else-not-lends_pattern),
+)
 
 pub returns-then-witnessed : goal.returns-then-witnessed
 returns-then-witnessed c = answered_some (decode_all c.args.records.now) c.args.pattern.now

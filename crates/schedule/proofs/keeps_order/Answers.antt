@@ -1,6 +1,5 @@
 -- `schedule::keeps_order` meets its contract: before each number the tables hold what is listed, and the rest
 -- of the schedule decides. Assumes nothing.
-use Prim.Native.Nat.{◌-◌}
 use native.Mathlib.Omega.{arith}
 use borrow.Author.Rules.{rules}
 use Rattle.model.specs.Recording.{decode_all}
@@ -45,12 +44,11 @@ note-requires c =
     )
 
 pub loop-i-preserved : goal.loop-i-preserved
-loop-i-preserved c =
-    (
-      search rules,
-      walking-next (asked (goal.at.loop-i-preserved c).After-follows) (c.if-not-follows.false) _ _ _
-          c.note.ensures,
-    )
+loop-i-preserved c = (
+  search rules,
+  walking-next (asked (goal.at.loop-i-preserved c).After-follows) (c.if-not-follows.false) _ _ _
+      c.note.ensures,
+)
 
 pub returns : goal.returns
 returns c =

@@ -1,6 +1,5 @@
 -- `schedule::leaves_next` meets its contract: the events before number i of the pattern are next, so the rest
 -- decides. Assumes nothing.
-use Prim.Native.Nat.{◌-◌}
 use native.Mathlib.Omega.{arith}
 use Rattle.model.specs.Bytes.{numbers}
 use Rattle.laws.proofs.Bytes.{numbers-length, numbers_inside}

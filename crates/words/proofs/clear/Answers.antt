@@ -1,5 +1,4 @@
 -- `words::clear` meets its contract: the words passed are 0. Assumes nothing.
-use Prim.Native.Nat.{◌-◌}
 use native.Mathlib.Omega.{arith}
 use Rattle.words.proofs.Laws.{row_clear}
 use Rattle.words.proofs.clear.Goals as goal

@@ -1,5 +1,4 @@
 -- `words::count` meets its contract: the ones of the words passed are those of their places. Assumes nothing.
-use Prim.Native.Nat.{◌-◌}
 use native.Mathlib.Omega.{arith}
 use lib.Count.{ones-le}
 use Rattle.words.proofs.Laws.{count_more}

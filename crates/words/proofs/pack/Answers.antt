@@ -1,5 +1,5 @@
 -- `words::pack` meets its contract: the words have the bits of the bytes passed, no other. Assumes nothing.
-use Prim.Native.Nat.{◌-◌, ◌/◌}
+use Prim.Native.Nat.{◌/◌}
 use mathlib.Core.Path.{◌∙◌}
 use borrow.Author.Rules.{rules}
 use lib.ListN.{length-set}

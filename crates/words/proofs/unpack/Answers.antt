@@ -1,5 +1,5 @@
 -- `words::unpack` meets its contract: the bytes passed have the bits of the words. Assumes nothing.
-use Prim.Native.Nat.{◌-◌, ◌/◌, ◌^◌}
+use Prim.Native.Nat.{◌/◌, ◌^◌}
 use mathlib.Core.Path.{◌∙◌}
 use native.Mathlib.Omega.{arith}
 use lib.Bits.{bit_and}

@@ -134,14 +134,13 @@ extend-following-e-requires t c =
     )
 
 pub extend-loop-e-init : goal.extend-loop-e-init
-extend-loop-e-init t c =
-    (
-      c.requires.1.long,
-      refl,
-      refl,
-      scanning-start (first_event t (goal.at.extend-loop-e-init t c).Start) c.following-e.ensures c.requires.4 c.requires.5,
-      kept-start,
-    )
+extend-loop-e-init t c = (
+  c.requires.1.long,
+  refl,
+  refl,
+  scanning-start (first_event t (goal.at.extend-loop-e-init t c).Start) c.following-e.ensures c.requires.4 c.requires.5,
+  kept-start,
+)
 
 pub extend-returns : goal.extend-returns
 extend-returns t c =

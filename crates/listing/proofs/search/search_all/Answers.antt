@@ -9,13 +9,12 @@ use Rattle.listing.proofs.Beginnings.{searching_end}
 use Rattle.listing.proofs.search.search_all.Goals as goal
 
 pub loop-a-init : goal.loop-a-init
-loop-a-init c =
-    (
-      refl,
-      refl,
-      searching-start (c.requires.0.linked.link 0 (omega arith))
-          (record { bytes_le = omega arith; patterns_le = omega arith }) refl refl refl,
-    )
+loop-a-init c = (
+  refl,
+  refl,
+  searching-start (c.requires.0.linked.link 0 (omega arith))
+      (record { bytes_le = omega arith; patterns_le = omega arith }) refl refl refl,
+)
 
 pub search_first-found-requires : goal.search_first-found-requires
 search_first-found-requires c =
