@@ -11,7 +11,9 @@ pub fn put(text: &mut [u8], at: usize, bytes: &[u8]) -> usize
     ensures { (result ≡ at + length bytes.now)
         × (text.new ≡ sets text.old at bytes.now) }
 {
-    at + bytes::copy(bytes, &mut text[at..])
+    let end = at + bytes.len();
+    text[at..end].copy_from_slice(bytes);
+    end
 }
 
 // Puts a number in decimal, in as few digits as hold it, of which there are at most twenty.
