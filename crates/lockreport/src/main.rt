@@ -3,12 +3,13 @@
 // `text` is what is printed, made as a whole before it is written; its lines are executed and compared.
 #![tactic(auto)]
 
-ghost use Rattle.std.specs.Prelude.{◌+◌, ◌*◌, ◌/◌, ◌≤◌, ◌<◌, ◌≡◌, length, drop};
+ghost use Rattle.std.specs.Prelude.{◌+◌, ◌*◌, ◌/◌, ◌≤◌, ◌<◌, ◌≡◌, IfOk, length, drop};
 ghost use Rattle.model.specs.Calls.List.{list, list_out};
 ghost use Rattle.io.specs.Counts.{IsPrefixLen};
 ghost use Rattle.lockreport.specs.Text.{Entries, text_length};
 
-use libc::{STDIN_FILENO, STDOUT_FILENO};
+use std::io;
+use std::io::{Read, Write};
 
 // One byte more than a recording can have, so that more than 8,192 bytes have a length that no count fits.
 const INPUT: usize = 8193;
@@ -110,7 +111,7 @@ fn report(recording: &[u8], text: &mut [u8]) -> usize
     requires { text_length 65536 ≤ length text.old }
     ensures { IsPrefixLen result text.new }
 {
-    let mut out = io::large_buffer();
+    let mut out = [0u8; 65536];
     let listed = list_pairs(recording, &mut out);
     if listed.refusal != 0 {
         return put_refusal(text, listed.refusal, listed.event);
@@ -126,11 +127,27 @@ fn blank_text() -> [u8; TEXT]
     [0; TEXT]
 }
 
-// Reads standard input to its end, or to the first byte too many, and prints the lines for it.
-fn main() {
+// Reads until the buffer is full or the input ends: how many bytes are then in its front.
+fn read_full(input: &mut impl Read, buffer: &mut [u8]) -> io::Result<usize>
+    ensures { IfOk result (λ count. IsPrefixLen count buffer.new) }
+{
+    let mut done = 0;
+    while done < buffer.len() {
+        let count = input.read(&mut buffer[done..])?;
+        if count == 0 {
+            break;
+        }
+        done = done + count;
+    }
+    Ok(done)
+}
+
+// Reads standard input to its end, or to the first byte too many, and prints the lines for it. A read or a
+// write that fails ends the program with its error.
+fn main(rt: HostRuntime) -> io::Result<()> {
     let mut recording = [0u8; INPUT];
-    let count = io::read_full(STDIN_FILENO, &mut recording);
+    let count = read_full(&mut rt.stdin(), &mut recording)?;
     let mut text = blank_text();
     let end = report(&recording[..count], &mut text);
-    io::write_all(STDOUT_FILENO, &text[..end]);
+    rt.stdout().write_all(&text[..end])
 }

@@ -6,7 +6,7 @@ use crate::arguments::Given;
 use crate::{arguments, calls, text};
 
 // The call that a name stands for, if any.
-#[derive(Drop)]
+#[derive(Clone, Copy)]
 enum Call {
     Check,
     Relations,
@@ -23,37 +23,19 @@ enum Call {
 
 // The call of that name.
 fn call_of(name: &[u8]) -> Call {
-    if check::same(name, b"check") {
-        return Call::Check;
+    match name {
+        b"check" => Call::Check,
+        b"relations" => Call::Relations,
+        b"load" => Call::Load,
+        b"close" => Call::Close,
+        b"list" => Call::List,
+        b"verdict" => Call::Verdict,
+        b"witness" => Call::Witness,
+        b"schedule" => Call::Schedule,
+        b"clist" => Call::Clist,
+        b"cverdict" => Call::Cverdict,
+        _ => Call::Unknown,
     }
-    if check::same(name, b"relations") {
-        return Call::Relations;
-    }
-    if check::same(name, b"load") {
-        return Call::Load;
-    }
-    if check::same(name, b"close") {
-        return Call::Close;
-    }
-    if check::same(name, b"list") {
-        return Call::List;
-    }
-    if check::same(name, b"verdict") {
-        return Call::Verdict;
-    }
-    if check::same(name, b"witness") {
-        return Call::Witness;
-    }
-    if check::same(name, b"schedule") {
-        return Call::Schedule;
-    }
-    if check::same(name, b"clist") {
-        return Call::Clist;
-    }
-    if check::same(name, b"cverdict") {
-        return Call::Cverdict;
-    }
-    Call::Unknown
 }
 
 // Takes the arguments of a call.

@@ -3,7 +3,7 @@
 ghost use Rattle.std.specs.Prelude.{◌*◌, ◌≤◌, ◌≡◌, length};
 ghost use Rattle.io.specs.Counts.{IsPrefixLen};
 
-use crate::spelling;
+use crate::{scan, spelling};
 
 // Whether words spell the arguments of a call; if so, how many bytes its first, second and third argument of
 // bytes have, and its number, 0 for any that it does not take.
@@ -21,7 +21,7 @@ pub fn word_end(line: &[u8], at: usize) -> usize
     requires { at ≤ length line.now }
     ensures { (at ≤ result) × IsPrefixLen result line.now }
 {
-    bytes::scan::find(line, at, line.len(), b' ')
+    scan::find(line, at, line.len(), b' ')
 }
 
 // Where the next word begins, behind the space at which one ends.

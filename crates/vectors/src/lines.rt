@@ -1,10 +1,12 @@
 // The lines of standard input, which comes in pieces of any size. Nothing says that an input ends, so reads
 // are counted down, from a number that no run uses up.
-ghost use Rattle.std.specs.Prelude.{◌+◌, ◌-◌, ◌*◌, ◌≤◌, ◌<◌, ◌≡◌, true, length, ltb};
+ghost use Rattle.std.specs.Prelude.{◌+◌, ◌-◌, ◌*◌, ◌≤◌, ◌<◌, ◌≡◌, true, IfOk, length, ltb};
 ghost use Rattle.io.specs.Counts.{IsPrefixLen};
 ghost use Rattle.vectors.specs.Reading.{Standing, left};
 
-use libc::STDIN_FILENO;
+use crate::scan;
+use std::io;
+use std::io::Read;
 
 // Where reading stands: the chunk's bytes from `at` to `end` are not taken yet, and `reads` more reads may be
 // made. If a line was found, its buffer holds `held` bytes of it.
@@ -44,12 +46,11 @@ fn ended(held: usize) -> Input
     }
 }
 
-// Reads the next piece of the input: its length, or 0 where the input ends or the read fails.
-fn refill(chunk: &mut [u8]) -> usize
-    ensures { result ≤ length chunk.new }
+// Reads the next piece of the input: its length, or 0 where the input ends.
+fn refill(reader: &mut impl Read, chunk: &mut [u8]) -> io::Result<usize>
+    ensures { IfOk result (λ count. count ≤ length chunk.new) }
 {
-    let got = libc::read(STDIN_FILENO, chunk);
-    io::count(got, chunk)
+    reader.read(chunk)
 }
 
 // How many bytes of a piece there is room for.
@@ -68,38 +69,43 @@ fn keep(line: &mut [u8], held: usize, piece: &[u8]) -> usize
     ensures { result ≤ length line.old }
 {
     let count = fitting(piece, line.len() - held);
-    held + bytes::copy(&piece[..count], &mut line[held..])
+    printing::put(line, held, &piece[..count])
 }
 
 // Takes the next line, up to a line feed or the end of the input. Of a line longer than its buffer, its front
-// is held, as much as has room, and the rest is passed over.
-pub fn next(input: Input, chunk: &mut [u8], line: &mut [u8]) -> Input
+// is held, as much as has room, and the rest is passed over. Fails where a read does.
+pub fn next(
+    reader: &mut impl Read,
+    input: Input,
+    chunk: &mut [u8],
+    line: &mut [u8],
+) -> io::Result<Input>
     requires { Standing input (length chunk.old) × (length chunk.old ≤ 65536) }
-    ensures { Standing result (length chunk.new) × (result.held ≤ length line.new)
-        × (result.found ≡ true → left result < left input) }
+    ensures { IfOk result (λ next. Standing next (length chunk.new) × (next.held ≤ length line.new)
+        × (next.found ≡ true → left next < left input)) }
 {
     let mut at = input.at;
     let mut end = input.end;
     let mut reads = input.reads;
     let mut held = 0;
     while 0 < reads {
-        let stop = bytes::scan::find(chunk, at, end, b'\n');
+        let stop = scan::find(chunk, at, end, b'\n');
         held = keep(line, held, &chunk[at..stop]);
         if stop < end {
-            return Input {
+            return Ok(Input {
                 at: stop + 1,
                 end,
                 reads,
                 held,
                 found: true,
-            };
+            });
         }
         at = 0;
-        end = refill(chunk);
+        end = refill(reader, chunk)?;
         if end == 0 {
-            return ended(held);
+            return Ok(ended(held));
         }
         reads = reads - 1;
     }
-    ended(0)
+    Ok(ended(0))
 }

@@ -23,13 +23,15 @@ mod answers;
 mod arguments;
 mod calls;
 mod lines;
+mod scan;
 mod spelling;
 mod text;
 
-ghost use Rattle.std.specs.Prelude.{◌+◌, ◌≤◌, ◌≡◌, length};
+ghost use Rattle.std.specs.Prelude.{◌+◌, ◌≤◌, ◌≡◌, IfOk, length};
 ghost use Rattle.vectors.specs.Sizes.{line_length, bytes_length, answer_length, text_length};
 
-use libc::STDOUT_FILENO;
+use std::io;
+use std::io::{Read, Write};
 
 // A line that fills its buffer is too long: 8,300 bytes of recording, 8,300 of pattern and 65,600 of output,
 // which is more than any call needs, take 164,400 digits.
@@ -45,26 +47,27 @@ const ANSWER: usize = 180150;
 const TEXT: usize = 400000;
 
 // Writes the first bytes of the text out.
-fn write(text: &[u8], used: usize)
+fn write(writer: &mut impl Write, text: &[u8], used: usize) -> io::Result<()>
     requires { used ≤ length text.now }
 {
-    io::write_all(STDOUT_FILENO, &text[..used]);
+    writer.write_all(&text[..used])
 }
 
 // Writes the text out where another answer may not fit behind it: how many bytes of it are then in use.
-fn spill(text: &[u8], used: usize) -> usize
+fn spill(writer: &mut impl Write, text: &[u8], used: usize) -> io::Result<usize>
     requires { (used ≤ length text.now) × (answer_length ≤ length text.now) }
-    ensures { result + answer_length ≤ length text.now }
+    ensures { IfOk result (λ kept. kept + answer_length ≤ length text.now) }
 {
     if ANSWER <= text.len() - used {
-        return used;
+        return Ok(used);
     }
-    write(text, used);
-    0
+    write(writer, text, used)?;
+    Ok(0)
 }
 
 // Puts the answer to a line of which so many bytes are held, and keeps room for another answer behind it.
 fn answer_line(
+    writer: &mut impl Write,
     line: &[u8],
     held: usize,
     first: &mut [u8],
@@ -72,29 +75,32 @@ fn answer_line(
     third: &mut [u8],
     text: &mut [u8],
     used: usize,
-) -> usize
+) -> io::Result<usize>
     requires { (held ≤ length line.now) × (length line.now ≡ line_length)
         × (length first.old ≡ bytes_length) × (length second.old ≡ bytes_length)
         × (length third.old ≡ bytes_length) × (used + answer_length ≤ length text.old) }
-    ensures { result + answer_length ≤ length text.new }
+    ensures { IfOk result (λ kept. kept + answer_length ≤ length text.new) }
 {
     if held == line.len() {
         let end = text::put_bad(text, used);
-        return spill(text, end);
+        return spill(writer, text, end);
     }
     let end = answers::answer(&line[..held], first, second, third, text, used);
-    spill(text, end)
+    spill(writer, text, end)
 }
 
-// Answers line after line, and writes the answers out.
+// Answers line after line, and writes the answers out. Where a read fails, the answers to the lines before it
+// are written too.
 fn answer_lines(
+    reader: &mut impl Read,
+    writer: &mut impl Write,
     chunk: &mut [u8],
     line: &mut [u8],
     first: &mut [u8],
     second: &mut [u8],
     third: &mut [u8],
     text: &mut [u8],
-)
+) -> io::Result<()>
     requires { (length chunk.old ≤ 65536) × (length line.old ≡ line_length)
         × (length first.old ≡ bytes_length) × (length second.old ≡ bytes_length)
         × (length third.old ≡ bytes_length) × (length text.old ≡ text_length) }
@@ -102,13 +108,19 @@ fn answer_lines(
     let mut used = 0;
     let mut input = lines::start();
     loop {
-        input = lines::next(input, chunk, line);
+        input = match lines::next(reader, input, chunk, line) {
+            Ok(next) => next,
+            Err(error) => {
+                write(writer, text, used)?;
+                return Err(error);
+            }
+        };
         if !input.found {
             break;
         }
-        used = answer_line(line, input.held, first, second, third, text, used);
+        used = answer_line(writer, line, input.held, first, second, third, text, used)?;
     }
-    write(text, used);
+    write(writer, text, used)
 }
 
 // An empty line.
@@ -126,20 +138,23 @@ fn blank_text() -> [u8; TEXT] {
     [0; TEXT]
 }
 
-// Answers the lines of standard input, with a megabyte of buffers on the stack.
-fn main() {
-    let mut chunk = io::large_buffer();
+// Answers the lines of standard input, with a megabyte of buffers on the stack. A read or a write that fails
+// ends the program with its error.
+fn main(rt: HostRuntime) -> io::Result<()> {
+    let mut chunk = [0u8; 65536];
     let mut line = blank_line();
     let mut first = blank_bytes();
     let mut second = blank_bytes();
     let mut third = blank_bytes();
     let mut text = blank_text();
     answer_lines(
+        &mut rt.stdin(),
+        &mut rt.stdout(),
         &mut chunk,
         &mut line,
         &mut first,
         &mut second,
         &mut third,
         &mut text,
-    );
+    )
 }

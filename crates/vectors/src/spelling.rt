@@ -65,7 +65,7 @@ pub fn decode_bytes(word: &[u8], into: &mut [u8]) -> Decoded
     requires { length word.now ≤ 2 * length into.old }
     ensures { result.count ≤ length into.new }
 {
-    if check::same(word, b"-") {
+    if word == b"-".as_slice() {
         return Decoded {
             valid: true,
             count: 0,

@@ -1,0 +1,11 @@
+-- `vectors::answer_lines` ends: a line that is found leaves less of the input.
+use Rattle.std.proofs.Common.{◌+◌, ◌≤◌, length}
+use Rattle.vectors.specs.Sizes.{answer_length}
+use Rattle.vectors.specs.Reading.{Standing, left}
+use Rattle.vectors.proofs.answer_lines.Given as goal
+
+abbrev pub invariant-loop-next : goal.invariant-loop-next
+invariant-loop-next g l = (l.used + answer_length ≤ length l.text) × Standing l.input (length l.chunk)
+
+abbrev pub decreases-loop-next : goal.decreases-loop-next
+decreases-loop-next g l = left l.input
