@@ -1,11 +1,10 @@
 // The lines of standard input, which comes in pieces of any size. Nothing says that an input ends, so reads
 // are counted down, from a number that no run uses up.
-ghost use Rattle.std.specs.Prelude.{◌+◌, ◌-◌, ◌*◌, ◌≤◌, ◌<◌, ◌≡◌, true, IfOk, length, ltb};
+ghost use Rattle.std.specs.Prelude.{◌+◌, ◌-◌, ◌*◌, ◌≤◌, ◌<◌, ◌≡◌, true, length, ltb};
 ghost use Rattle.io.specs.Counts.{IsPrefixLen};
 ghost use Rattle.vectors.specs.Reading.{Standing, left};
 
 use crate::scan;
-use std::io;
 use std::io::Read;
 
 // Where reading stands: the chunk's bytes from `at` to `end` are not taken yet, and `reads` more reads may be
@@ -46,11 +45,14 @@ fn ended(held: usize) -> Input
     }
 }
 
-// Reads the next piece of the input: its length, or 0 where the input ends.
-fn refill(reader: &mut impl Read, chunk: &mut [u8]) -> io::Result<usize>
-    ensures { IfOk result (λ count. count ≤ length chunk.new) }
+// Reads the next piece of the input: its length, or 0 where the input ends or the read fails.
+fn refill(reader: &mut impl Read, chunk: &mut [u8]) -> usize
+    ensures { result ≤ length chunk.new }
 {
-    reader.read(chunk)
+    match reader.read(chunk) {
+        Ok(count) => count,
+        Err(_) => 0,
+    }
 }
 
 // How many bytes of a piece there is room for.
@@ -73,16 +75,11 @@ fn keep(line: &mut [u8], held: usize, piece: &[u8]) -> usize
 }
 
 // Takes the next line, up to a line feed or the end of the input. Of a line longer than its buffer, its front
-// is held, as much as has room, and the rest is passed over. Fails where a read does.
-pub fn next(
-    reader: &mut impl Read,
-    input: Input,
-    chunk: &mut [u8],
-    line: &mut [u8],
-) -> io::Result<Input>
+// is held, as much as has room, and the rest is passed over.
+pub fn next(reader: &mut impl Read, input: Input, chunk: &mut [u8], line: &mut [u8]) -> Input
     requires { Standing input (length chunk.old) × (length chunk.old ≤ 65536) }
-    ensures { IfOk result (λ next. Standing next (length chunk.new) × (next.held ≤ length line.new)
-        × (next.found ≡ true → left next < left input)) }
+    ensures { Standing result (length chunk.new) × (result.held ≤ length line.new)
+        × (result.found ≡ true → left result < left input) }
 {
     let mut at = input.at;
     let mut end = input.end;
@@ -92,20 +89,20 @@ pub fn next(
         let stop = scan::find(chunk, at, end, b'\n');
         held = keep(line, held, &chunk[at..stop]);
         if stop < end {
-            return Ok(Input {
+            return Input {
                 at: stop + 1,
                 end,
                 reads,
                 held,
                 found: true,
-            });
+            };
         }
         at = 0;
-        end = refill(reader, chunk)?;
+        end = refill(reader, chunk);
         if end == 0 {
-            return Ok(ended(held));
+            return ended(held);
         }
         reads = reads - 1;
     }
-    Ok(ended(0))
+    ended(0)
 }

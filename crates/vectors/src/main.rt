@@ -89,8 +89,7 @@ fn answer_line(
     spill(writer, text, end)
 }
 
-// Answers line after line, and writes the answers out. Where a read fails, the answers to the lines before it
-// are written too.
+// Answers line after line, and writes the answers out.
 fn answer_lines(
     reader: &mut impl Read,
     writer: &mut impl Write,
@@ -108,13 +107,7 @@ fn answer_lines(
     let mut used = 0;
     let mut input = lines::start();
     loop {
-        input = match lines::next(reader, input, chunk, line) {
-            Ok(next) => next,
-            Err(error) => {
-                write(writer, text, used)?;
-                return Err(error);
-            }
-        };
+        input = lines::next(reader, input, chunk, line);
         if !input.found {
             break;
         }
@@ -138,8 +131,8 @@ fn blank_text() -> [u8; TEXT] {
     [0; TEXT]
 }
 
-// Answers the lines of standard input, with a megabyte of buffers on the stack. A read or a write that fails
-// ends the program with its error.
+// Answers the lines of standard input, with a megabyte of buffers on the stack. A write that fails ends the
+// program with its error.
 fn main(rt: HostRuntime) -> io::Result<()> {
     let mut chunk = [0u8; 65536];
     let mut line = blank_line();
