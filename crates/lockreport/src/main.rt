@@ -3,12 +3,11 @@
 // `text` is what is printed, made as a whole before it is written; its lines are executed and compared.
 #![tactic(auto)]
 
-ghost use Rattle.std.specs.Prelude.{◌+◌, ◌*◌, ◌/◌, ◌≤◌, ◌<◌, ◌≡◌, IfOk, length, drop};
+ghost use Rattle.std.specs.Prelude.{◌+◌, ◌*◌, ◌/◌, ◌≤◌, ◌<◌, ◌≡◌, length, drop};
 ghost use Rattle.model.specs.Calls.List.{list, list_out};
 ghost use Rattle.io.specs.Counts.{IsPrefixLen};
 ghost use Rattle.lockreport.specs.Text.{Entries, text_length};
 
-use std::io;
 use std::io::{Read, Write};
 
 // One byte more than a recording can have, so that more than 8,192 bytes have a length that no count fits.
@@ -127,27 +126,44 @@ fn blank_text() -> [u8; TEXT]
     [0; TEXT]
 }
 
-// Reads until the buffer is full or the input ends: how many bytes are then in its front.
-fn read_full(input: &mut impl Read, buffer: &mut [u8]) -> io::Result<usize>
-    ensures { IfOk result (λ count. IsPrefixLen count buffer.new) }
+// Reads the next bytes into a part of the buffer: how many, or 0 where the input ends or the read fails.
+fn read_next(input: &mut impl Read, part: &mut [u8]) -> usize
+    ensures { IsPrefixLen result part.new }
+{
+    match input.read(part) {
+        Ok(count) => count,
+        Err(_) => 0,
+    }
+}
+
+// Reads until the buffer is full, the input ends or a read fails: how many bytes are then in its front.
+fn read_full(input: &mut impl Read, buffer: &mut [u8]) -> usize
+    ensures { IsPrefixLen result buffer.new }
 {
     let mut done = 0;
     while done < buffer.len() {
-        let count = input.read(&mut buffer[done..])?;
+        let count = read_next(input, &mut buffer[done..]);
         if count == 0 {
             break;
         }
         done = done + count;
     }
-    Ok(done)
+    done
 }
 
-// Reads standard input to its end, or to the first byte too many, and prints the lines for it. A read or a
-// write that fails ends the program with its error.
-fn main(rt: HostRuntime) -> io::Result<()> {
+// Writes the text out; a write that fails is passed over.
+fn write(output: &mut impl Write, text: &[u8]) {
+    match output.write_all(text) {
+        Ok(()) => {}
+        Err(_) => {}
+    }
+}
+
+// Reads standard input to its end, or to the first byte too many, and prints the lines for it.
+fn main(rt: HostRuntime) {
     let mut recording = [0u8; INPUT];
-    let count = read_full(&mut rt.stdin(), &mut recording)?;
+    let count = read_full(&mut rt.stdin(), &mut recording);
     let mut text = blank_text();
     let end = report(&recording[..count], &mut text);
-    rt.stdout().write_all(&text[..end])
+    write(&mut rt.stdout(), &text[..end]);
 }
