@@ -63,13 +63,12 @@ overflow_sub-result c =
 
 pub returns : goal.returns
 returns c =
-    let s = c in
-    let set = s.args.set.now in
+    let set = c.args.set.now in
     let bytes = c.unpack.new.set in
     let long : length bytes ≡ length set = c.unpack.auto.set in record {
       answer = ap₂ ◌-◌ (after (goal.at.returns c).After-slice_known-2-1) (before (goal.at.returns c).After-slice_known-2-1);
-      output = bytes_closed (decode_all s.args.records.now) set c.pack.new.words c.pack.ensures
+      output = bytes_closed (decode_all c.args.records.now) set c.pack.new.words c.pack.ensures
           c.reach.new.front c.put_behind.new.words c.reach.ensures
-          c.put_behind.ensures bytes (long ∙ s.requires.2) (λ k. (c.slice_known-2-1.given k).fits)
+          c.put_behind.ensures bytes (long ∙ c.requires.2) (λ k. (c.slice_known-2-1.given k).fits)
           (λ i h. c.unpack.ensures i (omega (arith, long)));
     }

@@ -54,12 +54,12 @@ join-requires c =
     let s = c.requires in
     let a_join = joins_is _ _ u.op_is.1 l.beyond (omega
     (arith, l.locking, u.op_is, c.if-opcode-eq2.false)) in
-    let small = c.if-at-ge80.false in (
+    let low = c.if-at-ge80.false in (
       s.2,
       rw a_join tt,
       s.4,
-      omega (arith, small, l.beyond, u.object_is),
-      target_is u (omega (arith, l.beyond, u.object_is)) small (omega (arith, l.locking, u.op_is)),
+      omega (arith, low, l.beyond, u.object_is),
+      target_is u (omega (arith, l.beyond, u.object_is)) low (omega (arith, l.locking, u.op_is)),
       z.joins_long,
       z.joined,
     )

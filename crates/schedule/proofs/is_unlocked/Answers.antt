@@ -20,8 +20,7 @@ is_listed-requires c =
     let a = c.args in
     let (small, is) =
     latest_matched (decode_all a.records.now) a.last.now a.e a.acquires.now _
-    c.object.ensures.1 a.matches.now c.requires.7 c.requires.8
-    c.if-latest-eq0.false in
+    c.object.ensures.1 a.matches.now c.requires.7 c.requires.8 c.if-latest-eq0.false in
     (matching_in a.records.now _ _ is small, c.requires.4)
 
 pub returns : goal.returns
@@ -29,9 +28,9 @@ returns c =
     let a = c.args in
     let σ = decode_all a.records.now in
     let o = c.object.ensures.1 in
-    let d = c.if-latest-eq0.false in
+    let listed = c.if-latest-eq0.false in
     let (small, is) =
     latest_matched σ a.last.now a.e a.acquires.now _ o a.matches.now c.requires.7
-    c.requires.8 d in
+    c.requires.8 listed in
     c.is_listed.ensures
-    ∙ unlocked_matched σ a.last.now a.e a.acquires.now _ o _ is d c.if-e-latest.false
+    ∙ unlocked_matched σ a.last.now a.e a.acquires.now _ o _ is listed c.if-e-latest.false

@@ -66,8 +66,8 @@ pub returns-then-k-eq2 : goal.returns-then-k-eq2
 returns-then-k-eq2 c =
     let is-object = c.object-l.ensures in (
       search rules,
-      no_release_matched (known (goal.at.returns-then-k-eq2 c).Start) c.args.matches.now c.requires.8 (search rules)
-          c.if-k-eq3.false c.if-k-eq4.false,
+      no_release_matched (known (goal.at.returns-then-k-eq2 c).Start) c.args.matches.now c.requires.8
+          (search rules) c.if-k-eq3.false c.if-k-eq4.false,
       acquire_latest (known (goal.at.returns-then-k-eq2 c).Start) is-object c.args.acquires.now c.requires.6 c.requires.9 c.if-k-eq2.true,
     )
 
