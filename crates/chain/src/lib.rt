@@ -2,7 +2,8 @@
 // event, and the closure of the predecessors with it.
 #![tactic(auto)]
 
-ghost use Rattle.std.specs.Prelude.{ℕ, suc, ◌*◌, ◌^◌, ◌<◌, ◌≤◌, ◌≡◌, ◌≢◌, cond, not, List, [], ◌∷◌, ◌++◌, T, eqb, leb, length, get_or, take};
+ghost use Rattle.std.specs.Prelude.{ℕ, suc, ◌*◌, ◌^◌, ◌<◌, ◌≤◌, ◌≡◌, ◌≢◌, cond, not, List, [], ◌∷◌, ◌++◌, T};
+ghost use Rattle.std.specs.Prelude.{eqb, leb, length, get_or, take};
 ghost use Rattle.std.specs.Int.Bits.{bit_or};
 ghost use Rattle.model.specs.Lists.{all, has_bit};
 ghost use Rattle.model.specs.Trace.{tasks, task, object, is_event, is_acquire};

@@ -61,7 +61,8 @@ module _ (σ : Trace) (words want : List ℕ) (long : length want ≡ tasks)
               (latest (task σ e) (ok.task_lt e i k)).latest e (omega arith)
               (and_i (row_bit 64 words (e - 1)) _ bit (eqb_refl (task σ e)))
 
-          tops : (t : ℕ) → t < tasks → get_or want t 0 ≢ 0 → T (has (closure σ (lent_set σ set)) (get_or want t 0))
+          tops : (t : ℕ) → t < tasks → get_or want t 0 ≢ 0 → T
+              (has (closure σ (lent_set σ set)) (get_or want t 0))
           tops t l d =
               let e = get_or want t 0 in
               let i : 1 ≤ e = omega arith in

@@ -2,7 +2,8 @@
 // that closes them, written back as bytes.
 #![tactic(auto)]
 
-ghost use Rattle.std.specs.Prelude.{ℕ, suc, ◌+◌, ◌-◌, ◌*◌, ◌<◌, ◌≤◌, ◌≡◌, not, ◌&&◌, ◌||◌, T, eqb, leb, ltb, length, get_or, replicate};
+ghost use Rattle.std.specs.Prelude.{ℕ, suc, ◌+◌, ◌-◌, ◌*◌, ◌<◌, ◌≤◌, ◌≡◌, not, ◌&&◌, ◌||◌, T, eqb, leb, ltb};
+ghost use Rattle.std.specs.Prelude.{length, get_or, replicate};
 ghost use Rattle.model.specs.Lists.{all, from};
 ghost use Rattle.model.specs.Trace.{tasks, task};
 ghost use Rattle.model.specs.Recording.{decode_all};

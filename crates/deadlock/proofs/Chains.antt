@@ -105,7 +105,8 @@ module _ (σ : Trace) (ns : List ℕ) (a last tasks guards i : ℕ) (inside : i 
       ap (completing σ c) (drop-cons ns i 0 inside ∙ ap (λ (n : ℕ). get_or ns i 0 ∷ drop n ns)
       (sym (add-one i)))
       ∙ completing_cons σ c (get_or ns i 0) (drop (i + 1) ns)
-      ∙ joined (is_event σ (get_or ns i 0)) (ltb c.first (get_or ns i 0)) (fits (signature σ) c (get_or ns i 0)) _
+      ∙ joined (is_event σ (get_or ns i 0)) (ltb c.first (get_or ns i 0))
+      (fits (signature σ) c (get_or ns i 0)) _
     where
       joined : (x y z w : Bool) → (x && (y && (z && w))) ≡ (x && y && z && w)
       joined true true z w = refl

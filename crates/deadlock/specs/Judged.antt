@@ -1,6 +1,7 @@
 -- The table that question 10 reads and its test of each number, what is decided of a lent pattern, as one
 -- number, and the events in the set of a frontier.
-use Rattle.std.specs.Prelude.{ℕ, ◌+◌, ◌-◌, ◌≤◌, ◌≡◌, Bool, cond, ◌&&◌, List, [], ◌∷◌, leb, ltb, length, get_or}
+use Rattle.std.specs.Prelude.{ℕ, ◌+◌, ◌-◌, ◌≤◌, ◌≡◌, Bool, cond, ◌&&◌, List, [], ◌∷◌, leb, ltb, length}
+use Rattle.std.specs.Prelude.{get_or}
 use Rattle.model.specs.Lists.{filter, from}
 use Rattle.model.specs.Bytes.{numbers, is_whole}
 use Rattle.model.specs.Trace.{Trace, tasks, task, is_event}

@@ -2,7 +2,8 @@
 // schedule that witnesses it. A pattern's numbers are two bytes each.
 #![tactic(auto)]
 
-ghost use Rattle.std.specs.Prelude.{◌+◌, ◌*◌, ◌/◌, ◌^◌, ◌<◌, ◌≤◌, ◌≡◌, not, ◌&&◌, [], T, leb, length, get_or, drop, replicate};
+ghost use Rattle.std.specs.Prelude.{◌+◌, ◌*◌, ◌/◌, ◌^◌, ◌<◌, ◌≤◌, ◌≡◌, not, ◌&&◌, [], T, leb, length, get_or};
+ghost use Rattle.std.specs.Prelude.{drop, replicate};
 ghost use Rattle.std.specs.Int.Bits.{bit_or};
 ghost use Rattle.std.proofs.lemmas.List.Edits.{sets};
 ghost use Rattle.model.specs.Lists.{all, has_bit};

@@ -33,7 +33,8 @@ wanted_earlier σ want top f =
 -- lock, the match of the earlier one; of another event what it awaits.
 unfoldable pub wanted_with : Trace → List ℕ → List ℕ → ℕ → List ℕ
 wanted_with σ want latest f =
-    cond (is_acquire σ f) (wanted_earlier σ want (get_or latest (object σ f) 0) f) (wanted σ want (awaited σ f))
+    cond (is_acquire σ f) (wanted_earlier σ want (get_or latest (object σ f) 0) f)
+    (wanted σ want (awaited σ f))
 
 -- The latest acquires with event f.
 unfoldable pub latest_with : Trace → List ℕ → ℕ → List ℕ

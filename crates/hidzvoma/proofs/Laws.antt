@@ -88,7 +88,8 @@ pub check_small : (b : List ℕ) → get_or b 1 0 < 256 → Small (check b)
 check_small b h =
     ⊎_elim (λ (l : 2 ≤ length b). ⊎_elim
     (λ (f : format b ≡ 1). ⊎_elim
-    (λ (q : length b ≡ 2 + 2 * event_count b). rw (check_events_lem b l f q) (events_small (trace b) (size q)))
+    (λ (q : length b ≡ 2 + 2 * event_count b). rw (check_events_lem b l f q)
+    (events_small (trace b) (size q)))
     (λ d. rw (check-length b l f d) (asked_small 3 false (omega arith)))
     (equal? (length b) (2 + 2 * event_count b)))
     (λ d. rw (check-format b l d) (asked_small 2 false (omega arith))) (equal? (format b) 1))
@@ -163,6 +164,7 @@ module _ (b p : List ℕ) where
   verdict_carries = record { accepted = λ y. rw y (refl, refl); refused = λ n. rw n (refl, refl) }
 
   -- and its number is 2 or 0.
-  pub verdict_entry_lem : entry_number (verdict_refusal b p) (cond (verdict b p).deadlock 2 0) ≡ verdict_entry b p
+  pub verdict_entry_lem : entry_number (verdict_refusal b p) (cond (verdict b p).deadlock 2 0)
+      ≡ verdict_entry b p
   unfolding verdict_entry
   verdict_entry_lem = refl

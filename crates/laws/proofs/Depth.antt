@@ -8,7 +8,8 @@ use mathlib.Core.Bool.{true, false, cond, ◌||◌, and-false}
 use native.Mathlib.Omega.{arith}
 use lib.Dec.{T, not_T, eqb, eqb→eq, ltb→lt, lt→ltb}
 use borrow.Author.Tests.{eq-eqb, ne_eqb}
-use Rattle.model.specs.Trace.{Trace, no_event, at, task, object, has_acquire_op, has_release_op, enters, leaves}
+use Rattle.model.specs.Trace.{Trace, no_event, at, task, object, has_acquire_op, has_release_op, enters}
+use Rattle.model.specs.Trace.{leaves}
 use Rattle.model.specs.Trace.{operates}
 use Rattle.model.specs.Trace.{depth, own_depth, is_acquire, is_release}
 use Rattle.model.specs.Relations.{holds}

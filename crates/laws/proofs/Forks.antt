@@ -52,9 +52,15 @@ module _ (σ : Trace) (e : ℕ) where
       back : (t ≡ task σ e) ⊎ Known σ t e → is_new σ e ≡ false
       back =
           ⊎_elim (λ q. rw (eq-eqb t (task σ e) q)) (λ (f, h, k, w). ⊎_elim
-          (λ u. rw (ne_eqb (start_of σ e t) 0 ((latest_some (start_of_latest σ e t)).1 (f, h, k, u)), and-false))
+          (λ u. rw (
+            ne_eqb (start_of σ e t) 0 ((latest_some (start_of_latest σ e t)).1 (f, h, k, u)),
+            and-false,
+          ))
           (⊎_elim
-          (λ u. rw (ne_eqb (join_of σ e t) 0 ((latest_some (join_of_latest σ e t)).1 (f, h, k, u)), and-false))
+          (λ u. rw (
+            ne_eqb (join_of σ e t) 0 ((latest_some (join_of_latest σ e t)).1 (f, h, k, u)),
+            and-false,
+          ))
           (λ q. rw (
             ne_eqb (latest_of σ e t) 0
                 ((latest_some (latest_of_latest σ e t)).1 (f, h, k, eq→eqb t (task σ f) (sym q))),

@@ -120,7 +120,8 @@ module _ (σ : Trace) (e : ℕ) (table starting : List ℕ) (z : LatestEvents (�
 
   -- That of a joined task is what the join waits for.
   pub latest-joined : is_join σ e ≡ true → target σ e < length table → target σ e < length starting
-      → cond (eqb (get_or table (target σ e) 0) 0) (get_or starting (target σ e) 0) (get_or table (target σ e) 0)
+      → cond (eqb (get_or table (target σ e) 0) 0) (get_or starting (target σ e) 0)
+      (get_or table (target σ e) 0)
       ≡ joined σ e
   unfolding joined
   latest-joined j h k = rw j (latest_last (target σ e) h k)

@@ -123,7 +123,8 @@ module _ (σ : Trace) (ok : WellFormed σ) (e : ℕ) (inside : (1 ≤ e) × (e �
           search (parts, and_i, (same_object_iff σ e opened).1 same, (same_task_iff σ e opened).1 mine)
 
       back : (acquire_of σ e ≢ 0)
-          → T (is_acquire σ (acquire_of σ e) && same_object σ e (acquire_of σ e) && same_task σ e (acquire_of σ e))
+          → T (is_acquire σ (acquire_of σ e) && same_object σ e (acquire_of σ e)
+          && same_task σ e (acquire_of σ e))
           → T (acquires (acquire_of σ e))
       back d p =
           let same : object σ e ≡ object σ (acquire_of σ e) = (same_object_iff σ e (acquire_of σ e)).0

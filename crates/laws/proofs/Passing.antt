@@ -19,7 +19,8 @@ use Rattle.laws.proofs.Trace.{is_event_iff, decode_all-length}
 pub listed-event : (b ns : List ℕ) (i : ℕ) {e : ℕ} → T (all (is_event (decode_all b)) ns) → i < length ns
     → e ≡ get_or ns i 0 → (1 ≤ e) × (e ≤ length (decode_all b)) × (2 * e ≤ length b)
 listed-event b ns i t h is =
-    let event = (is_event_iff (decode_all b) (get_or ns i 0)).0 (all-at 0 (is_event (decode_all b)) ns i t h) in
+    let event = (is_event_iff (decode_all b) (get_or ns i 0)).0
+    (all-at 0 (is_event (decode_all b)) ns i t h) in
     let size = decode_all-length b in
     omega arith
 

@@ -107,7 +107,8 @@ module _ (σ : Trace) where
           → has_bit (get_or back (suc i) 0) (object σ c.last) ≡ false → a < e → e ≤ length σ → Fitting c e
           → has_bit (get_or back i 0) (object σ e) ≡ false
       missed i l c e q h j k f =
-          is_false (has_bit (get_or back i 0) (object σ e)) (not_T (has_bit (get_or back i 0) (object σ e)) (λ t.
+          is_false (has_bit (get_or back i 0) (object σ e))
+          (not_T (has_bit (get_or back i 0) (object σ e)) (λ t.
           T_not (has_bit (get_or back (suc i) 0) (object σ c.last)) (rw h tt)
           (z.leads i l (object σ e) (lock_lt σ ok e (omega arith) k (or_l (is_acquire σ e) _ f.acquires)) t
           (object σ c.last)
@@ -128,7 +129,8 @@ module _ (σ : Trace) where
           (nowhere i (omega arith) (add (signature σ) c e) q (add_rooted c e w) out))
           (branch_unfit σ i c e))
         where
-          unclosed : (i : ℕ) → i < count → (l : ℕ) → has_bit (get_or back i 0) l ≡ false → has_bit (held σ a) l ≡
+          unclosed : (i : ℕ) → i < count → (l : ℕ) → has_bit (get_or back i 0) l ≡ false
+              → has_bit (held σ a) l ≡
               false
           unclosed i k l o =
               is_false (has_bit (held σ a) l) (not_T (has_bit (held σ a) l) (λ t.
@@ -140,7 +142,8 @@ module _ (σ : Trace) where
   pub before_later : (p : List ℕ) (e f : ℕ) → Inside σ (p ++ f ∷ []) → 1 ≤ e → e < f → task σ e ≡ task σ f
       → Within (closure_before σ (p ++ e ∷ [])) (In (closure_before σ (p ++ f ∷ [])))
   before_later p e f inside l k q =
-      before_least σ (In (closure_before σ (p ++ f ∷ []))) (before_closed σ (p ++ f ∷ [])) (p ++ e ∷ []) starts
+      before_least σ (In (closure_before σ (p ++ f ∷ []))) (before_closed σ (p ++ f ∷ []))
+      (p ++ e ∷ []) starts
     where
       starts : (x : ℕ) → Memᴰ x (p ++ e ∷ []) → predecessor σ x ≢ 0
           → In (closure_before σ (p ++ f ∷ [])) (predecessor σ x)
@@ -152,7 +155,8 @@ module _ (σ : Trace) where
           new : x ≡ e → In (closure_before σ (p ++ f ∷ [])) (predecessor σ x)
           new s =
               let own = previous_latest σ f in
-              let at_least : e ≤ previous σ f = own.latest e (omega arith) ((same_task_iff σ f e).1 (sym q)) in
+              let at_least : e ≤ previous σ f = own.latest e (omega arith)
+              ((same_task_iff σ f e).1 (sym q)) in
               let z : previous σ f ≢ 0 = omega arith in
               let r = predecessor-previous σ f z in
               let closed = before_closed σ (p ++ f ∷ []) in

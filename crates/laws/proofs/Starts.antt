@@ -46,7 +46,8 @@ module _ (σ : Trace) where
             → get_or (set table (table_length + target σ e) e) (table_length + t) 0 ≡ start_of σ (suc e) t
         other t h d =
             rw (is_true (is_start σ e) a, ne_eqb t (target σ e) d)
-            (get_or-set_other table (table_length + target σ e) (table_length + t) e 0 (omega arith) ∙ z.at t h)
+            (get_or-set_other table (table_length + target σ e) (table_length + t) e 0
+            (omega arith) ∙ z.at t h)
 
     -- Another event changes nothing.
     pub starts_keep : is_start σ e ≡ false → Starts σ (suc e) table
@@ -62,7 +63,8 @@ module _ (σ : Trace) where
     -- With the latest events of the tasks, the table gives a task's last event, or its start.
     pub starts_last : (latest : List ℕ) → LatestEvents (λ f. true) (task σ) e latest → length latest ≡ tasks
         → (t : ℕ) → t < tasks
-        → cond (eqb (get_or latest t 0) 0) (get_or table (table_length + t) 0) (get_or latest t 0) ≡ last_of σ e t
+        → cond (eqb (get_or latest t 0) 0) (get_or table (table_length + t) 0) (get_or latest t 0)
+        ≡ last_of σ e t
     unfolding last_of
     starts_last latest y long t h = rw (latest_of_lem σ e latest y t (omega arith), z.at t h)
 

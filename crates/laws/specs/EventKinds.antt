@@ -7,7 +7,8 @@ use Rattle.model.specs.Relations.{matching}
 
 -- The record of an acquire or a release that is no outer one: an inner one, a start or a join.
 unfoldable pub is_uncounted : Trace → ℕ → Bool
-is_uncounted σ e = (has_acquire_op σ e && not (is_acquire σ e)) || (has_release_op σ e && not (is_release σ e))
+is_uncounted σ e =
+    (has_acquire_op σ e && not (is_acquire σ e)) || (has_release_op σ e && not (is_release σ e))
 
 -- The kind of such a record, which is no operation's number.
 abbrev pub uncounted_kind : ℕ

@@ -36,7 +36,8 @@ pub record Advancing (σ : Trace) (front want latest : List ℕ) (t old f : ℕ)
   pub latest_visited : (l : ℕ) → l < locks → get_or latest l 0 ≢ 0
       → Visited σ front t old f (get_or latest l 0) × T (is_acquire σ (get_or latest l 0))
       × (object σ (get_or latest l 0) ≡ l)
-  pub latest_most : (e : ℕ) → Visited σ front t old f e → T (is_acquire σ e) → e ≤ get_or latest (object σ e) 0
+  pub latest_most : (e : ℕ) → Visited σ front t old f e → T (is_acquire σ e) → e
+      ≤ get_or latest (object σ e) 0
   pub match_wanted : (e : ℕ) → Visited σ front t old f e → T (is_acquire σ e)
       → e < get_or latest (object σ e) 0 → matching σ e ≤ get_or want (task σ e) 0
 

@@ -1,6 +1,7 @@
 -- The depth_first search for deadlocks: chains that begin with the smallest event, extended by one later
 -- event after the other. That it finds the listing is in proofs/Walk, Search and Listing.
-use Rattle.std.specs.Prelude.{ℕ, zero, suc, ◌-◌, ◌≤◌, ◌<◌, ◌≡◌, ◌≢◌, Bool, false, cond, not, List, [], ◌∷◌, T, eqb, length}
+use Rattle.std.specs.Prelude.{ℕ, zero, suc, ◌-◌, ◌≤◌, ◌<◌, ◌≡◌, ◌≢◌, Bool, false, cond, not, List, [], ◌∷◌, T}
+use Rattle.std.specs.Prelude.{eqb, length}
 use Rattle.model.specs.Lists.{from, each}
 use Rattle.model.specs.Trace.{Trace, is_acquire}
 use Rattle.model.specs.Pattern.{is_deadlock}

@@ -1,7 +1,8 @@
 -- What the tables of a walk hold right before event e, in terms of the relations: the holder and the depth of
 -- a lock, the locks of each task, the latest event of each kind, and the matches. How one event changes them
 -- is in proofs/LatestEvents, Holders, Kept, LockDepth, Locksets and Matches.
-use Rattle.std.specs.Prelude.{ℕ, suc, ◌+◌, ◌-◌, ◌^◌, ◌≤◌, ◌<◌, ◌≡◌, Bool, cond, ◌&&◌, List, eqb, length, get_or}
+use Rattle.std.specs.Prelude.{ℕ, suc, ◌+◌, ◌-◌, ◌^◌, ◌≤◌, ◌<◌, ◌≡◌, Bool, cond, ◌&&◌, List, eqb, length}
+use Rattle.std.specs.Prelude.{get_or}
 use Rattle.model.specs.Lists.{last_before, first_from, has_bit}
 use Rattle.model.specs.Trace.{Trace, tasks, locks, same_task, same_object, depth, is_acquire, is_release}
 use Rattle.model.specs.Relations.{start_of, acquire_of, holds}

@@ -70,7 +70,8 @@ module _ {σ : Trace} {path₀ : List ℕ} {len left tasks guards : ℕ} {front 
     dropped = λ n. rw same_chain (a.dropped n (chain_at path₀ len tasks guards) still_along);
   }
 
-  module _ (h : 1 ≤ left) (inside : get_or path₀ 0 0 ≤ length σ) {room excluded e : ℕ} {out₀ out out' : List ℕ}
+  module _ (h : 1 ≤ left) (inside : get_or path₀ 0 0 ≤ length σ) {room excluded e : ℕ}
+      {out₀ out out' : List ℕ}
       {f₀ f f' : Found}
       (z : Scanning σ (left - 1) (chain_at path₀ len tasks guards) room excluded e out₀ out f₀ f) (d : e ≢ 0)
       (a : Adds room (branch σ (left - 1) (chain_at path len tasks guards) e) out out' f f') where

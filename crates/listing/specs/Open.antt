@@ -1,5 +1,6 @@
 -- The state of the search: the tables that it reads, and the chain that it extends.
-use Rattle.std.specs.Prelude.{ℕ, ◌+◌, ◌-◌, ◌≤◌, ◌<◌, ◌≡◌, ◌≢◌, true, List, [], ◌∷◌, ◌++◌, T, length, get_or, take}
+use Rattle.std.specs.Prelude.{ℕ, ◌+◌, ◌-◌, ◌≤◌, ◌<◌, ◌≡◌, ◌≢◌, true, List, [], ◌∷◌, ◌++◌, T, length, get_or}
+use Rattle.std.specs.Prelude.{take}
 use Rattle.model.specs.Lists.{all}
 use Rattle.model.specs.Trace.{Trace, is_event, is_acquire}
 use Rattle.model.specs.Recording.{decode_all}

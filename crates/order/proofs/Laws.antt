@@ -20,7 +20,8 @@ use Rattle.laws.proofs.Tests.{equal?}
 use Rattle.laws.proofs.Relations.{joined-none, joined_last}
 use Rattle.laws.proofs.LatestEvents.{latest-set, latest_keep, latest-writer, filled-set}
 use Rattle.laws.proofs.Starts.{starts-set, starts_keep, starts_noted, starts_last, filled-behind}
-use Rattle.laws.proofs.Operations.{is_start-none, is_join-none, is_start_lock, is_join_lock, starts_is, joins_is}
+use Rattle.laws.proofs.Operations.{is_start-none, is_join-none, is_start_lock, is_join_lock, starts_is}
+use Rattle.laws.proofs.Operations.{joins_is}
 use Rattle.laws.specs.EventKinds.{kind}
 use Rattle.laws.proofs.EventKinds.{is_read-kind, is_write-kind, is_start-kind, is_join-kind}
 use Rattle.laws.proofs.Awaited.{awaited_read, awaited_other}

@@ -29,7 +29,8 @@ use Rattle.pruning.proofs.Spreads.{covers_kept, covers_put}
 pub record Marking (σ : Trace) (blocks : List ℕ) (e : ℕ) : Type 0 where
   pub long : length blocks ≡ 64
   pub event : e ≢ 0 → (1 ≤ e) × (e ≤ length σ) × T (is_nested σ e)
-  pub marks : (f : ℕ) → f < up_to (length σ) e → T (is_nested σ f) → Covers (held σ f) (get_or blocks (f / 64) 0)
+  pub marks : (f : ℕ) → f < up_to (length σ) e → T (is_nested σ f)
+      → Covers (held σ f) (get_or blocks (f / 64) 0)
 
 module _ (σ : Trace) where
   -- An event between a place and its link is not nested.
@@ -99,7 +100,8 @@ module _ (σ : Trace) where
             y,
           ))
 
-      module _ (n : has_bit (get_or blocks (x / 64) 0) l ≡ false) (end : ℕ) (is : end ≡ x / 64 * 64 + 63) where
+      module _ (n : has_bit (get_or blocks (x / 64) 0) l ≡ false) (end : ℕ)
+          (is : end ≡ x / 64 * 64 + 63) where
         missed : (f : ℕ) → x ≤ f → f ≤ end → is_near σ blocks l f ≡ false
         missed f h k =
             let same : f / 64 ≡ x / 64 = omega arith in

@@ -87,7 +87,8 @@ module _ {σ : Trace} {e t o : ℕ} {holders depths : List ℕ} (u : Locked σ e
         )
 
     -- An acquire of a lock that its task holds.
-    pub enter-again : get_or holders o 0 ≡ t + 1 → Entered σ e 0 holders (set depths o (get_or depths o 0 + 1))
+    pub enter-again : get_or holders o 0 ≡ t + 1 → Entered σ e 0 holders
+        (set depths o (get_or depths o 0 + 1))
     enter-again n = (
       rw (free_is, ne_eqb (get_or holders o 0) 0 (omega arith), eq-eqb (get_or holders o 0) (t + 1) n),
       λ _. rw (add-one (get_or depths o 0))

@@ -2,7 +2,8 @@
 // `records` is the part of a recording after its header of two bytes, wherever it stands.
 #![tactic(auto)]
 
-ghost use Rattle.std.specs.Prelude.{◌+◌, ◌*◌, ◌-◌, ◌/◌, ◌<◌, ◌≤◌, ◌≡◌, false, true, cond, ◌||◌, ◌≢◌, T, eqb, length, get_or, replicate};
+ghost use Rattle.std.specs.Prelude.{◌+◌, ◌*◌, ◌-◌, ◌/◌, ◌<◌, ◌≤◌, ◌≡◌, false, true, cond, ◌||◌, ◌≢◌, T, eqb};
+ghost use Rattle.std.specs.Prelude.{length, get_or, replicate};
 ghost use Rattle.std.proofs.lemmas.List.Edits.{sets};
 ghost use Rattle.model.specs.Lists.{has_bit};
 ghost use Rattle.model.specs.Bytes.{numbers, two_bytes};

@@ -71,7 +71,8 @@ module _ (σ : Trace) (last : List ℕ) (e : ℕ) where
     unlocked_first q = rw (← is, eq-eqb (get_or acquires o 0) 0 q)
 
     -- A lock that a later acquire took keeps the event back.
-    pub unlocked_late : get_or acquires o 0 ≢ 0 → e ≤ get_or acquires o 0 → false ≡ is_unlocked σ last acquires e
+    pub unlocked_late : get_or acquires o 0 ≢ 0 → e ≤ get_or acquires o 0 → false
+        ≡ is_unlocked σ last acquires e
     unfolding is_unlocked
     unlocked_late d h = rw (← is, ne_eqb (get_or acquires o 0) 0 d, le-leb e (get_or acquires o 0) h)
 

@@ -109,7 +109,8 @@ module _ (σ : Trace) (before last acquires writes : List ℕ) (z : Listed σ be
 
   module _ (n : is_next σ last e ≡ true) where
     -- One that does may, where it reads, waits and locks as it should.
-    may_follow_lem : (T (is_read σ e) → latest_write σ e before ≡ writer σ e) → T (is_ready σ last (joined σ e))
+    may_follow_lem : (T (is_read σ e) → latest_write σ e before ≡ writer σ e)
+        → T (is_ready σ last (joined σ e))
         → (T (is_acquire σ e) → Clear σ before e) → T (may_follow σ before e)
     may_follow_lem reads ready clear =
         let (fresh, ordered, started) = next.0 (rw n tt) in
@@ -130,7 +131,8 @@ module _ (σ : Trace) (before last acquires writes : List ℕ) (z : Listed σ be
     alone j = rw (joined-none σ e j) tt
 
     -- A read may where the last listed write of its variable is its writer.
-    pub read_follows : is_read σ e ≡ true → is_join σ e ≡ false → is_acquire σ e ≡ false → object σ e < variables
+    pub read_follows : is_read σ e ≡ true → is_join σ e ≡ false → is_acquire σ e ≡ false
+        → object σ e < variables
         → eqb (get_or writes (object σ e) 0) (writer σ e) ≡ may_follow σ before e
     read_follows r j a b = T-ext (eqb (get_or writes (object σ e) 0) (writer σ e)) (may_follow σ before e)
         (λ t. may_follow_lem (λ _. z.written.last e b ∙ eqb→eq (get_or writes (object σ e) 0) (writer σ e) t)

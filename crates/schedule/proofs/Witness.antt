@@ -22,7 +22,8 @@ use Rattle.schedule.proofs.Tasks.{enabled-next}
 
 -- The events that are next by the table of tasks are the enabled ones.
 next-enabled : (b ρ last p : List ℕ) → (check_events (decode_all b)).refusal ≡ 0 → UpTo (decode_all b) ρ last
-    → T (all (is_event (decode_all b)) p) → all (is_next (decode_all b) last) p ≡ all (enabled (decode_all b) ρ) p
+    → T (all (is_event (decode_all b)) p) → all (is_next (decode_all b) last) p
+    ≡ all (enabled (decode_all b) ρ) p
 next-enabled b ρ last p accepted u events =
     all_ext (is_next (decode_all b) last) (enabled (decode_all b) ρ) p same
   where

@@ -2,7 +2,8 @@
 // events of a pattern next. It walks through the schedule once, with three tables of what is listed.
 #![tactic(auto)]
 
-ghost use Rattle.std.specs.Prelude.{ℕ, ◌+◌, ◌*◌, ◌/◌, ◌<◌, ◌≤◌, ◌≡◌, true, ◌&&◌, List, ◌∷◌, T, length, get_or, replicate};
+ghost use Rattle.std.specs.Prelude.{ℕ, ◌+◌, ◌*◌, ◌/◌, ◌<◌, ◌≤◌, ◌≡◌, true, ◌&&◌, List, ◌∷◌, T, length};
+ghost use Rattle.std.specs.Prelude.{get_or, replicate};
 ghost use Rattle.model.specs.Lists.{all};
 ghost use Rattle.model.specs.Trace.{tasks, locks, object, is_event};
 ghost use Rattle.model.specs.Relations.{predecessor};

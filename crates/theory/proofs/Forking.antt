@@ -155,7 +155,8 @@ fifteen σ e = (
 -- 16: a join of the own task, or an event of a task that was joined.
 sixteen : (σ : Trace) (e : ℕ) → fault σ e ≡ 16 → Over σ e
 sixteen σ e q =
-    or_elim (joins_own σ e) (is_over σ e) (λ t. inl ((joins_own_iff σ e).0 t)) (λ t. inr ((is_over_iff σ e).0 t))
+    or_elim (joins_own σ e) (is_over σ e) (λ t. inl ((joins_own_iff σ e).0 t))
+    (λ t. inr ((is_over_iff σ e).0 t))
     (fault_sixteen σ e q)
 
 refused : (σ : Trace) (e : ℕ) → Over σ e → fault σ e ≢ 0

@@ -11,7 +11,8 @@ use Rattle.chain.proofs.avoids_path.Given as goal
 
 abbrev pub invariant-loop-i : goal.invariant-loop-i
 invariant-loop-i l =
-    (l.i ≤ l.len) × Passing (λ e. not (leb e (get_or l.front (task (decode_all l.records) e) 0))) (take l.len l.path) l.i
+    (l.i ≤ l.len) × Passing (λ e. not (leb e (get_or l.front (task (decode_all l.records) e) 0)))
+    (take l.len l.path) l.i
 
 abbrev pub decreases-loop-i : goal.decreases-loop-i
 decreases-loop-i l = l.len - l.i

@@ -26,7 +26,8 @@ accepted c = sym (ap (λ (o : Outcome). o.refusal) c.check-checked.ensures) ∙ 
 counted : (c : goal.After-event_count-n)
     → let a = c.args in
     c.event_count-n.result ≡ length (trace a.recording.now)
-counted c = c.event_count-n.ensures.1 ∙ sym (check-count _ (accepted (goal.at.After-event_count-n c).Else-checked-ne0))
+counted c = c.event_count-n.ensures.1
+    ∙ sym (check-count _ (accepted (goal.at.After-event_count-n c).Else-checked-ne0))
 
 -- The lent set has the length of a set.
 sized : (c : goal.Else-set-n)
@@ -44,14 +45,19 @@ is-clear : (c : goal.After-spare_clear)
     c.spare_clear.result
     ≡ all (λ e. not (lent_bit a.set.now e)) (from (suc n) (8 * length a.set.now - n))
 is-clear c =
-    rw (add-one c.event_count-n.result, counted (goal.at.After-spare_clear c).After-event_count-n) at c.spare_clear.ensures
+    rw (add-one c.event_count-n.result, counted (goal.at.After-spare_clear c).After-event_count-n)
+    at c.spare_clear.ensures
 
 pub returns-then-checked-ne0 : goal.returns-then-checked-ne0
 returns-then-checked-ne0 c =
     let a = c.args in
     let q = c.check-checked.ensures in
     let (x, y) = close_unchecked a.recording.now a.set.now (rw q at c.if-checked-ne0.true) in
-    record { answer = c.refused.ensures ∙ ap (λ (o : Outcome). refused_closed o.refusal o.event) q ∙ sym x; output = sym y }
+    record {
+      answer =
+          c.refused.ensures ∙ ap (λ (o : Outcome). refused_closed o.refusal o.event) q ∙ sym x;
+      output = sym y;
+    }
 
 pub event_count-n-requires : goal.event_count-n-requires
 event_count-n-requires c = (check_bytes _ (accepted (goal.at.event_count-n-requires c).Else-checked-ne0)).0
@@ -68,22 +74,28 @@ returns-then-set-n c =
 pub returns-then-not-spare_clear : goal.returns-then-not-spare_clear
 returns-then-not-spare_clear c =
     let a = c.args in
-    let no = sym (is-clear (goal.at.returns-then-not-spare_clear c).After-spare_clear) ∙ c.if-not-spare_clear.true in
-    let (x, y) = close_spare a.recording.now a.set.now (accepted (goal.at.returns-then-not-spare_clear c).Else-checked-ne0) (sized (goal.at.returns-then-not-spare_clear c).Else-set-n) no in
+    let no = sym (is-clear (goal.at.returns-then-not-spare_clear c).After-spare_clear)
+    ∙ c.if-not-spare_clear.true in
+    let (x, y) = close_spare a.recording.now a.set.now
+    (accepted (goal.at.returns-then-not-spare_clear c).Else-checked-ne0)
+    (sized (goal.at.returns-then-not-spare_clear c).Else-set-n) no in
     record { answer = c.refused-then-not-spare_clear.ensures ∙ sym x; output = sym y }
 
 pub slice_bounds-close_set-count : goal.slice_bounds-close_set-count
-slice_bounds-close_set-count c = (check_bytes _ (accepted (goal.at.slice_bounds-close_set-count c).Else-checked-ne0)).0
+slice_bounds-close_set-count c =
+    (check_bytes _ (accepted (goal.at.slice_bounds-close_set-count c).Else-checked-ne0)).0
 
 pub slice_bounds-close_set-start : goal.slice_bounds-close_set-start
 slice_bounds-close_set-start c =
-    let h = (check_bytes _ (accepted (goal.at.slice_bounds-close_set-start c).Else-checked-ne0)).0 in search rules
+    let h = (check_bytes _ (accepted (goal.at.slice_bounds-close_set-start c).Else-checked-ne0)).0 in
+    search rules
 
 pub close_set-added-requires : goal.close_set-added-requires
 close_set-added-requires c =
     let b = c.args.recording.now in
     let ok = accepted (goal.at.close_set-added-requires c).Else-checked-ne0 in
-    let yes = sym (is-clear (goal.at.close_set-added-requires c).After-spare_clear) ∙ c.if-not-spare_clear.false in (
+    let yes = sym (is-clear (goal.at.close_set-added-requires c).After-spare_clear)
+    ∙ c.if-not-spare_clear.false in (
       part_small b ok (c.type_inv.recording 1).fits,
       part_accepted b ok,
       rw (part-trace b) (sized (goal.at.close_set-added-requires c).Else-set-n),
@@ -95,7 +107,12 @@ returns c =
     let a = c.args in
     let b = a.recording.now in
     let yes = sym (is-clear (goal.at.returns c).After-spare_clear) ∙ c.if-not-spare_clear.false in
-    let (x, y) = close_closed b a.set.now (accepted (goal.at.returns c).Else-checked-ne0) (sized (goal.at.returns c).Else-set-n) yes in
+    let (x, y) = close_closed b a.set.now (accepted (goal.at.returns c).Else-checked-ne0)
+    (sized (goal.at.returns c).Else-set-n) yes in
     let added = rw (part-trace b) at c.close_set-added.ensures.answer in
     let bytes = rw (part-trace b) at c.close_set-added.ensures.output in
-    record { answer = ap (λ (m : ℕ). record { refusal = 0; event = 0; added = m }) added ∙ sym x; output = bytes ∙ sym y }
+    record {
+      answer =
+          ap (λ (m : ℕ). record { refusal = 0; event = 0; added = m }) added ∙ sym x;
+      output = bytes ∙ sym y;
+    }

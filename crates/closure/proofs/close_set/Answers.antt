@@ -59,14 +59,20 @@ unpack-requires c =
 pub overflow_sub-result : goal.overflow_sub-result
 overflow_sub-result c =
     let grow = members_grow (decode_all c.args.records.now) c.args.set.now in
-    omega (arith, before (goal.at.overflow_sub-result c).After-slice_known-2-1, after (goal.at.overflow_sub-result c).After-slice_known-2-1, grow)
+    omega (
+      arith,
+      before (goal.at.overflow_sub-result c).After-slice_known-2-1,
+      after (goal.at.overflow_sub-result c).After-slice_known-2-1,
+      grow,
+    )
 
 pub returns : goal.returns
 returns c =
     let set = c.args.set.now in
     let bytes = c.unpack.new.set in
     let long : length bytes ≡ length set = c.unpack.auto.set in record {
-      answer = ap₂ ◌-◌ (after (goal.at.returns c).After-slice_known-2-1) (before (goal.at.returns c).After-slice_known-2-1);
+      answer = ap₂ ◌-◌ (after (goal.at.returns c).After-slice_known-2-1)
+          (before (goal.at.returns c).After-slice_known-2-1);
       output = bytes_closed (decode_all c.args.records.now) set c.pack.new.words c.pack.ensures
           c.reach.new.front c.put_behind.new.words c.reach.ensures
           c.put_behind.ensures bytes (long ∙ c.requires.2) (λ k. (c.slice_known-2-1.given k).fits)

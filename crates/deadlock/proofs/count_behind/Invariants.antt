@@ -8,7 +8,8 @@ use Rattle.deadlock.proofs.count_behind.Given as goal
 
 abbrev pub invariant-loop-e : goal.invariant-loop-e
 invariant-loop-e l =
-    (1 ≤ l.e) × (l.e ≤ length l.records / 2 + 1) × (l.count ≡ length (behind_below (decode_all l.records) l.front l.e))
+    (1 ≤ l.e) × (l.e ≤ length l.records / 2 + 1)
+    × (l.count ≡ length (behind_below (decode_all l.records) l.front l.e))
 
 abbrev pub decreases-loop-e : goal.decreases-loop-e
 decreases-loop-e l = length l.records / 2 + 1 - l.e

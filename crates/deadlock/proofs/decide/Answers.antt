@@ -50,7 +50,8 @@ returns-then-avoids c =
     let σ = decode_all c.args.records.now in
     let z = c.reach.ensures in
     let v = sym c.avoids.ensures ∙ c.if-avoids.true in (
-      judged-verdict σ c.args.pattern.now (pattern-lent (goal.at.returns-then-avoids c).Else-not-lends_pattern) _ _
+      judged-verdict σ c.args.pattern.now
+          (pattern-lent (goal.at.returns-then-avoids c).Else-not-lends_pattern) _ _
           true z (sym v),
       λ _. judged_reached σ c.args.pattern.now _ _ z,
     )

@@ -19,13 +19,15 @@ holds c =
 pub returns-then-not-lock_in_mask : goal.returns-then-not-lock_in_mask
 returns-then-not-lock_in_mask c =
     let a = c.args in
-    fits_lock (decode_all a.records.now) a.last a.tasks a.guards a.e (holds (goal.at.returns-then-not-lock_in_mask c).Start)
+    fits_lock (decode_all a.records.now) a.last a.tasks a.guards a.e
+    (holds (goal.at.returns-then-not-lock_in_mask c).Start)
     (sym c.lock_in_mask.ensures ∙ c.if-not-lock_in_mask.true)
 
 pub returns-then-guards-held-ne0 : goal.returns-then-guards-held-ne0
 returns-then-guards-held-ne0 c =
     let a = c.args in
-    fits_guards (decode_all a.records.now) a.last a.tasks a.guards a.e (holds (goal.at.returns-then-guards-held-ne0 c).Start)
+    fits_guards (decode_all a.records.now) a.last a.tasks a.guards a.e
+    (holds (goal.at.returns-then-guards-held-ne0 c).Start)
     c.task.ensures.1 c.if-guards-held-ne0.true
 
 pub is_acquire-requires : goal.is_acquire-requires

@@ -12,7 +12,8 @@ sound c = events_sound c.args.records.now c.requires.2
 
 pub returns-then-operation-ne2 : goal.returns-then-operation-ne2
 returns-then-operation-ne2 c =
-    acquires-not (decode_all c.args.records.now) (sound (goal.at.returns-then-operation-ne2 c).Start) c.args.e c.operation.ensures.1
+    acquires-not (decode_all c.args.records.now) (sound (goal.at.returns-then-operation-ne2 c).Start) c.args.e
+    c.operation.ensures.1
     c.if-operation-ne2.true
 
 pub returns-then-l-ge64 : goal.returns-then-l-ge64

@@ -47,6 +47,7 @@ pub returns : goal.returns
 returns c =
     let first = c.number-a.ensures in
     rw first at c.completes.ensures
-    ∙ lends_rest (decode_all c.args.records.now) c.args.pattern.now c.if-pattern-ne0.false c.if-pattern-lt4.false
+    ∙ lends_rest (decode_all c.args.records.now) c.args.pattern.now c.if-pattern-ne0.false
+    c.if-pattern-lt4.false
     c.if-pattern-gt32.false
     (rw first at (sym c.begins.ensures ∙ c.if-not-begins.false))

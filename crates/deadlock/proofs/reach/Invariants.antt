@@ -9,7 +9,8 @@ use Rattle.deadlock.proofs.reach.Given as goal
 
 abbrev pub invariant-loop-i : goal.invariant-loop-i
 invariant-loop-i l =
-    (l.i ≤ length l.pattern / 2) × Before (decode_all l.records) (take l.i (numbers l.pattern)) l.front l.latest ×
+    (l.i ≤ length l.pattern / 2) × Before (decode_all l.records) (take l.i (numbers l.pattern))
+    l.front l.latest ×
     (l.want ≡ l.front)
 
 abbrev pub decreases-loop-i : goal.decreases-loop-i

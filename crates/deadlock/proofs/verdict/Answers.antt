@@ -22,11 +22,13 @@ returns-then-checked-ne0 c =
     ∙ sym (verdict_unchecked c.args.recording.now c.args.pattern.now (rw q at c.if-checked-ne0.true))
 
 pub slice_bounds-judge-count : goal.slice_bounds-judge-count
-slice_bounds-judge-count c = (check_bytes c.args.recording.now (accepted (goal.at.slice_bounds-judge-count c).Else-checked-ne0)).0
+slice_bounds-judge-count c =
+    (check_bytes c.args.recording.now (accepted (goal.at.slice_bounds-judge-count c).Else-checked-ne0)).0
 
 pub slice_bounds-judge-start : goal.slice_bounds-judge-start
 slice_bounds-judge-start c =
-    let h = (check_bytes c.args.recording.now (accepted (goal.at.slice_bounds-judge-start c).Else-checked-ne0)).0
+    let h = (check_bytes c.args.recording.now
+    (accepted (goal.at.slice_bounds-judge-start c).Else-checked-ne0)).0
     in search rules
 
 pub judge-decided-requires : goal.judge-decided-requires
@@ -49,4 +51,5 @@ pub returns : goal.returns
 returns c =
     let b = c.args.recording.now in
     let is = rw (part-trace b) at c.judge-decided.ensures.0 in
-    rw is (sym (verdict_some b c.args.pattern.now (accepted (goal.at.returns c).Else-checked-ne0) (λ q. c.if-decided-eq0.false (is ∙ q))))
+    rw is (sym (verdict_some b c.args.pattern.now (accepted (goal.at.returns c).Else-checked-ne0)
+    (λ q. c.if-decided-eq0.false (is ∙ q))))

@@ -21,13 +21,19 @@ returns-then-checked-ne0 c =
     let q = c.check-checked.ensures in
     let (x, y) =
     witness_unchecked a.recording.now a.pattern.now a.out.now (rw q at c.if-checked-ne0.true) in
-    record { answer = c.unwritten.ensures ∙ ap (λ (o : Outcome). refused_witness o.refusal o.event) q ∙ sym x; output = sym y }
+    record {
+      answer = c.unwritten.ensures ∙ ap (λ (o : Outcome). refused_witness o.refusal o.event) q ∙ sym x;
+      output = sym y;
+    }
 
 pub slice_bounds-witness_records-count : goal.slice_bounds-witness_records-count
-slice_bounds-witness_records-count c = (check_bytes _ (accepted (goal.at.slice_bounds-witness_records-count c).Else-checked-ne0)).0
+slice_bounds-witness_records-count c =
+    (check_bytes _ (accepted (goal.at.slice_bounds-witness_records-count c).Else-checked-ne0)).0
 
 pub slice_bounds-witness_records-start : goal.slice_bounds-witness_records-start
-slice_bounds-witness_records-start c = let h = (check_bytes _ (accepted (goal.at.slice_bounds-witness_records-start c).Else-checked-ne0)).0 in search rules
+slice_bounds-witness_records-start c =
+    let h = (check_bytes _ (accepted (goal.at.slice_bounds-witness_records-start c).Else-checked-ne0)).0 in
+    search rules
 
 pub witness_records-requires : goal.witness_records-requires
 witness_records-requires c =

@@ -9,7 +9,8 @@ use Rattle.entries.proofs.write_entry.Given as goal
 
 abbrev pub invariant-loop-i : goal.invariant-loop-i
 invariant-loop-i l =
-    (l.i ≤ l.size) × (length l.out ≡ length l.initial.out) × (l.out ≡ sets l.initial.out 2 (encode (take l.i l.path)))
+    (l.i ≤ l.size) × (length l.out ≡ length l.initial.out)
+    × (l.out ≡ sets l.initial.out 2 (encode (take l.i l.path)))
 
 abbrev pub decreases-loop-i : goal.decreases-loop-i
 decreases-loop-i l = l.size - l.i

@@ -42,7 +42,12 @@ more c =
 
 pub want_event-requires : goal.want_event-requires
 want_event-requires c = (
-  omega (arith, noted (goal.at.want_event-requires c).Start, known (goal.at.want_event-requires c).Start, decode_all-length c.args.records.now),
+  omega (
+    arith,
+    noted (goal.at.want_event-requires c).Start,
+    known (goal.at.want_event-requires c).Start,
+    decode_all-length c.args.records.now,
+  ),
   rw c.requires.4 c.requires.3.want_ok.long,
 )
 
@@ -51,7 +56,8 @@ advance-requires c = (
   c.requires.0,
   c.requires.1,
   c.requires.2,
-  rw (more (goal.at.advance-requires c).After-want_event) (settled-wanted _ (events_sound c.args.records.now c.requires.1) _ _ _ c.requires.3 _
+  rw (more (goal.at.advance-requires c).After-want_event)
+      (settled-wanted _ (events_sound c.args.records.now c.requires.1) _ _ _ c.requires.3 _
       (known (goal.at.advance-requires c).Start)),
 )
 

@@ -45,7 +45,8 @@ next c = c.requires.2.predecessor_at _ (event c).0 (event c).1
 
 pub loop-f-init : goal.loop-f-init
 loop-f-init c =
-    turning-again _ (events_sound c.args.records.now c.requires.1) (begun (goal.at.loop-f-init c).After-begin-end)
+    turning-again _ (events_sound c.args.records.now c.requires.1)
+    (begun (goal.at.loop-f-init c).After-begin-end)
 
 pub visit-requires : goal.visit-requires
 visit-requires c =

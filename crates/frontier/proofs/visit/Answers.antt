@@ -29,20 +29,23 @@ want_event-requires c =
 pub returns-then-operation-ne2 : goal.returns-then-operation-ne2
 returns-then-operation-ne2 c =
     let (h, k) = record-event c.args.records.now c.args.f (c.requires.0, c.requires.1) in
-    let visited = other_visited (unpacked (goal.at.returns-then-operation-ne2 c).After-operation) _ c.args.latest.now c.if-operation-ne2.true (c.requires.6.writer_at c.args.f h k)
+    let visited = other_visited (unpacked (goal.at.returns-then-operation-ne2 c).After-operation) _
+    c.args.latest.now c.if-operation-ne2.true (c.requires.6.writer_at c.args.f h k)
     c.want_event.ensures in
     record { wanted = visited.0; latest = visited.1 }
 
 pub returns-then-matches-f : goal.returns-then-matches-f
 returns-then-matches-f c =
-    let visited = uncounted_visited (unpacked (goal.at.returns-then-matches-f c).After-operation) c.args.want.now c.args.latest.now c.if-operation-ne2.false
+    let visited = uncounted_visited (unpacked (goal.at.returns-then-matches-f c).After-operation)
+    c.args.want.now c.args.latest.now c.if-operation-ne2.false
     c.if-matches-f.true in
     record { wanted = visited.0; latest = visited.1 }
 
 pub visit_acquire-requires : goal.visit_acquire-requires
 visit_acquire-requires c =
     let b = c.args.records.now in
-    let outer = marked_outer (unpacked (goal.at.visit_acquire-requires c).After-operation) c.if-operation-ne2.false c.if-matches-f.false in (
+    let outer = marked_outer (unpacked (goal.at.visit_acquire-requires c).After-operation)
+    c.if-operation-ne2.false c.if-matches-f.false in (
       c.requires.0,
       c.requires.1,
       omega (arith, c.requires.1, c.requires.2, c.requires.6.matching_long),
@@ -54,6 +57,7 @@ visit_acquire-requires c =
 
 pub returns : goal.returns
 returns c =
-    let visited = acquire_visited (unpacked (goal.at.returns c).After-operation) c.args.want.now c.args.latest.now c.if-operation-ne2.false c.if-matches-f.false
+    let visited = acquire_visited (unpacked (goal.at.returns c).After-operation) c.args.want.now
+    c.args.latest.now c.if-operation-ne2.false c.if-matches-f.false
     (c.visit_acquire.ensures.wanted, c.visit_acquire.ensures.latest) in
     record { wanted = visited.0; latest = visited.1 }

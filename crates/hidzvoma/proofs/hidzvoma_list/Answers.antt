@@ -35,6 +35,7 @@ returns c =
     let room = length c.args.out.now in
     let done = c.list-listed.ensures in record {
       number = ap (λ (l : Listed). l.bytes) done.answer
-          ∙ carries_accepted (list_carries b k room) (rw done.answer at c.if-listed-ne0.false) _ ∙ list_entry_lem b k room;
+          ∙ carries_accepted (list_carries b k room) (rw done.answer at c.if-listed-ne0.false) _
+          ∙ list_entry_lem b k room;
       output = done.output;
     }

@@ -36,7 +36,9 @@ returns-then-decided-ne0 c =
     ∙ carries_refused (verdict_carries b p) (rw q at c.if-decided-ne0.true) _ ∙ verdict_entry_lem b p
 
 pub returns-then-decided : goal.returns-then-decided
-returns-then-decided c = ap (λ (d : Bool). cond d 2 0) (sym c.if-decided.true) ∙ number (goal.at.returns-then-decided c).Else-decided-ne0
+returns-then-decided c = ap (λ (d : Bool). cond d 2 0) (sym c.if-decided.true)
+    ∙ number (goal.at.returns-then-decided c).Else-decided-ne0
 
 pub returns : goal.returns
-returns c = ap (λ (d : Bool). cond d 2 0) (sym c.if-decided.false) ∙ number (goal.at.returns c).Else-decided-ne0
+returns c =
+    ap (λ (d : Bool). cond d 2 0) (sym c.if-decided.false) ∙ number (goal.at.returns c).Else-decided-ne0

@@ -41,16 +41,21 @@ returns-then-checked-ne0 c =
     let q = c.check-checked.ensures in
     let (x, y) = list_unchecked c.args.recording.now c.args.largest c.args.out.now
     (rw q at c.if-checked-ne0.true) in
-    record { answer = c.unlisted.ensures ∙ ap (λ (o : Outcome). refused_listing o.refusal o.event) q ∙ sym x; output = sym y }
+    record {
+      answer = c.unlisted.ensures ∙ ap (λ (o : Outcome). refused_listing o.refusal o.event) q ∙ sym x;
+      output = sym y;
+    }
 
 pub returns-then-size-eq0 : goal.returns-then-size-eq0
 returns-then-size-eq0 c =
-    let (x, y) = list_size c.args.recording.now c.args.largest c.args.out.now (accepted (goal.at.returns-then-size-eq0 c).Else-checked-ne0) _
+    let (x, y) = list_size c.args.recording.now c.args.largest c.args.out.now
+    (accepted (goal.at.returns-then-size-eq0 c).Else-checked-ne0) _
     c.size_of-size.ensures c.if-size-eq0.true in
     record { answer = c.unlisted-then-size-eq0.ensures ∙ sym x; output = sym y }
 
 pub slice_bounds-list_records-count : goal.slice_bounds-list_records-count
-slice_bounds-list_records-count c = (check_bytes c.args.recording.now (accepted (goal.at.slice_bounds-list_records-count c).Else-checked-ne0)).0
+slice_bounds-list_records-count c = (check_bytes c.args.recording.now
+    (accepted (goal.at.slice_bounds-list_records-count c).Else-checked-ne0)).0
 
 pub slice_bounds-list_records-start : goal.slice_bounds-list_records-start
 slice_bounds-list_records-start c =
@@ -71,7 +76,8 @@ list_records-found-requires c =
 pub returns-then-found : goal.returns-then-found
 returns-then-found c =
     let size = permitted (goal.at.returns-then-found c).Else-size-eq0 in
-    let (x, y) = list_short c.args.recording.now c.args.largest c.args.out.now (accepted (goal.at.returns-then-found c).Else-checked-ne0) _
+    let (x, y) = list_short c.args.recording.now c.args.largest c.args.out.now
+    (accepted (goal.at.returns-then-found c).Else-checked-ne0) _
     size.2 size.3 _ _ (delivered (goal.at.returns-then-found c).After-list_records-found) c.if-found.true in
     record { answer = c.unlisted-then-found.ensures ∙ sym x; output = y }
 

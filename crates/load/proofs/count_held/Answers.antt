@@ -37,7 +37,8 @@ loop-e-preserved c =
         | then-depth-ne0 w ↦
             w.held-is ∙ counted σ k.e c.args.lock _ k.invariant.0 h k.held k.invariant.4 w.if-depth-ne0.true
         | else-depth-ne0 w ↦
-            w.held-is ∙ uncounted σ k.e c.args.lock _ k.invariant.0 h k.held k.invariant.4 w.if-depth-ne0.false
+            w.held-is ∙ uncounted σ k.e c.args.lock _ k.invariant.0 h k.held k.invariant.4
+            w.if-depth-ne0.false
       ],
     )
 

@@ -10,7 +10,8 @@ use Rattle.load.proofs.count_held.Given as goal
 
 abbrev pub invariant-loop-e : goal.invariant-loop-e
 invariant-loop-e l =
-    (1 ≤ l.e) × (l.e ≤ length l.records / 2 + 1) × (l.held < l.e) × LockDepth (decode_all l.records) l.e l.lock l.depth
+    (1 ≤ l.e) × (l.e ≤ length l.records / 2 + 1) × (l.held < l.e)
+    × LockDepth (decode_all l.records) l.e l.lock l.depth
     × (l.held ≡ held_before (decode_all l.records) l.lock l.e)
 
 abbrev pub decreases-loop-e : goal.decreases-loop-e

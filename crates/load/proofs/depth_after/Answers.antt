@@ -28,15 +28,22 @@ back c =
     (omega (arith, c.if-op-lt2.false)) c.if-op-eq2.false
 
 pub returns-then-op-lt2 : goal.returns-then-op-lt2
-returns-then-op-lt2 c = access-depth (unpacked (goal.at.returns-then-op-lt2 c).After-operation-op) c.if-op-lt2.true
+returns-then-op-lt2 c =
+    access-depth (unpacked (goal.at.returns-then-op-lt2 c).After-operation-op) c.if-op-lt2.true
 
 pub returns-then-object-lock : goal.returns-then-object-lock
-returns-then-object-lock c = other-depth (unpacked (goal.at.returns-then-object-lock c).After-operation-op) c.object.ensures.1
+returns-then-object-lock c =
+    other-depth (unpacked (goal.at.returns-then-object-lock c).After-operation-op) c.object.ensures.1
     c.if-object-lock.true
 
 pub overflow_add-result : goal.overflow_add-result
 overflow_add-result c =
-    omega (arith, depth_below (unpacked (goal.at.overflow_add-result c).After-operation-op) c.requires.0, c.requires.1, c.requires.2)
+    omega (
+      arith,
+      depth_below (unpacked (goal.at.overflow_add-result c).After-operation-op) c.requires.0,
+      c.requires.1,
+      c.requires.2,
+    )
 
 pub returns-then-op-eq2 : goal.returns-then-op-eq2
 returns-then-op-eq2 c =

@@ -28,7 +28,8 @@ returns-then-checked-ne0 c =
 
 pub returns-then-lock-ge64 : goal.returns-then-lock-ge64
 returns-then-lock-ge64 c =
-    sym (load_unknown c.args.recording.now c.args.lock (accepted (goal.at.returns-then-lock-ge64 c).Else-checked-ne0)
+    sym (load_unknown c.args.recording.now c.args.lock
+    (accepted (goal.at.returns-then-lock-ge64 c).Else-checked-ne0)
     (le-ltb c.args.lock locks c.if-lock-ge64.true))
 
 pub event_count-n-requires : goal.event_count-n-requires

@@ -1,4 +1,5 @@
--- `lockreport::put_patterns`: what is left are entries, and a number passed has taken at most ten bytes of text.
+-- `lockreport::put_patterns`: what is left are entries, and a number passed has taken at most ten bytes of
+-- text.
 use Rattle.std.proofs.Common.{◌*◌, ◌/◌, ◌-◌, ◌≤◌, length, drop}
 use Rattle.lockreport.specs.Text.{Entries}
 use Rattle.lockreport.proofs.put_patterns.Given as goal

@@ -12,7 +12,8 @@ front : (c : goal.Else-listed-ne0)
     × Entries (take c.list_pairs-listed.result.bytes c.list_pairs-listed.new.out)
 front c =
     let l = c.list_pairs-listed in
-    listed_front c.args.recording.now _ l.new.out 2 l.result l.ensures.answer l.ensures.output c.if-listed-ne0.false
+    listed_front c.args.recording.now _ l.new.out 2 l.result l.ensures.answer l.ensures.output
+    c.if-listed-ne0.false
 
 pub slice_bounds-out-end : goal.slice_bounds-out-end
 slice_bounds-out-end c = (front (goal.at.slice_bounds-out-end c).Else-listed-ne0).0

@@ -22,7 +22,8 @@ returns-then-o-lt64 c =
 
 pub last_of-requires : goal.last_of-requires
 last_of-requires c =
-    let known = names-task (unpacked (goal.at.last_of-requires c).After-object-o) (events_sound c.args.records.now c.requires.2)
+    let known = names-task (unpacked (goal.at.last_of-requires c).After-object-o)
+    (events_sound c.args.records.now c.requires.2)
     (omega (arith, c.if-operation-ne3.false)) in
     (omega (arith, c.if-o-lt64.false), c.requires.3, c.requires.4, c.requires.5, c.requires.6)
 

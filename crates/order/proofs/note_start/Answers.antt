@@ -29,7 +29,8 @@ returns-then-operation-ne2 c =
 
 pub returns-then-o-lt64 : goal.returns-then-o-lt64
 returns-then-o-lt64 c =
-    lock_noted (unpacked (goal.at.returns-then-o-lt64 c).After-object-o) c.requires.6 c.requires.7 c.requires.2 c.if-o-lt64.true
+    lock_noted (unpacked (goal.at.returns-then-o-lt64 c).After-object-o) c.requires.6 c.requires.7
+    c.requires.2 c.if-o-lt64.true
 
 pub bounds-predecessors-o : goal.bounds-predecessors-o
 bounds-predecessors-o c =
@@ -37,5 +38,6 @@ bounds-predecessors-o c =
 
 pub returns : goal.returns
 returns c =
-    start_noted (unpacked (goal.at.returns c).After-object-o) c.requires.6 c.requires.7 c.requires.2 c.requires.5
+    start_noted (unpacked (goal.at.returns c).After-object-o) c.requires.6 c.requires.7
+    c.requires.2 c.requires.5
     c.if-operation-ne2.false c.if-o-lt64.false (small (goal.at.returns c).After-object-o)

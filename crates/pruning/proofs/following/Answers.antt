@@ -14,7 +14,8 @@ use Rattle.pruning.proofs.following.Goals as goal
 pub hop-x-requires : goal.hop-x-requires
 hop-x-requires c =
     let b = c.args.records.now in (
-      rw c.object-l.ensures.1 (acquire_lt (decode_all b) (events_sound b c.requires.4) c.args.last c.requires.8),
+      rw c.object-l.ensures.1 (acquire_lt (decode_all b) (events_sound b c.requires.4) c.args.last
+          c.requires.8),
       c.requires.2,
       c.requires.3,
       c.requires.6,

@@ -7,7 +7,8 @@ use Rattle.pruning.proofs.following.Given as goal
 
 abbrev pub invariant-loop-x : goal.invariant-loop-x
 invariant-loop-x l =
-    Tried (fits (signature (decode_all l.records)) (chain_of 0 l.last l.tasks l.guards)) (length (decode_all l.records)) l.e
+    Tried (fits (signature (decode_all l.records)) (chain_of 0 l.last l.tasks l.guards))
+    (length (decode_all l.records)) l.e
     l.x
 
 abbrev pub decreases-loop-x : goal.decreases-loop-x

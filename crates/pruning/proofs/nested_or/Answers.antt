@@ -18,7 +18,8 @@ holds c =
 
 pub returns-then-held-eq0 : goal.returns-then-held-eq0
 returns-then-held-eq0 c =
-    nested_free (decode_all c.args.records.now) c.args.e c.args.later (holds (goal.at.returns-then-held-eq0 c).Start) c.if-held-eq0.true
+    nested_free (decode_all c.args.records.now) c.args.e c.args.later
+    (holds (goal.at.returns-then-held-eq0 c).Start) c.if-held-eq0.true
 
 pub is_acquire-requires : goal.is_acquire-requires
 is_acquire-requires c =

@@ -32,14 +32,21 @@ ask_object-answer-requires c =
     )
 
 pub returns-then-answer-ne0 : goal.returns-then-answer-ne0
-returns-then-answer-ne0 c =
-    (answer_refused (answered (goal.at.returns-then-answer-ne0 c).After-ask_object-answer) c.if-answer-ne0.true, λ q. absurd (c.if-answer-ne0.true q))
+returns-then-answer-ne0 c = (
+  answer_refused (answered (goal.at.returns-then-answer-ne0 c).After-ask_object-answer)
+      c.if-answer-ne0.true,
+  λ q. absurd (c.if-answer-ne0.true q),
+)
 
 pub returns-then-over-ne0 : goal.returns-then-over-ne0
-returns-then-over-ne0 c =
-    (answer_over (answered (goal.at.returns-then-over-ne0 c).After-ask_object-answer) c.if-answer-ne0.false c.if-over-ne0.true, λ q. absurd (omega arith))
+returns-then-over-ne0 c = (
+  answer_over (answered (goal.at.returns-then-over-ne0 c).After-ask_object-answer) c.if-answer-ne0.false
+      c.if-over-ne0.true,
+  λ q. absurd (omega arith),
+)
 
 pub returns : goal.returns
 returns c =
     let none = c.if-answer-ne0.false in
-    answer_passed (answered (goal.at.returns c).After-ask_object-answer) none c.if-over-ne0.false c.requires.3 (c.ask_object-answer.ensures.1 none)
+    answer_passed (answered (goal.at.returns c).After-ask_object-answer) none c.if-over-ne0.false c.requires.3
+    (c.ask_object-answer.ensures.1 none)

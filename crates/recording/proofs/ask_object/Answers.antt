@@ -42,7 +42,8 @@ returns-then-opcode-eq2 c =
     let l = other.0 in
     let z = other.1 in
     let u = coming c.operation-opcode.ensures c.object-at.ensures z in
-    started u (omega (arith, l.beyond, u.object_is)) c.if-at-ge80.false (omega (arith, l.locking, u.op_is)) c.if-opcode-eq2.true _ _ (search rules)
+    started u (omega (arith, l.beyond, u.object_is)) c.if-at-ge80.false (omega (arith, l.locking, u.op_is))
+    c.if-opcode-eq2.true _ _ (search rules)
     c.start.ensures
 
 pub join-requires : goal.join-requires

@@ -45,7 +45,8 @@ returns-then-op-eq1 c =
 
 pub returns-then-at-ge64 : goal.returns-then-at-ge64
 returns-then-at-ge64 c =
-    plain_other (unpacked (goal.at.returns-then-at-ge64 c).After-object-at) c.if-at-ge64.true c.if-op-eq0.false
+    plain_other (unpacked (goal.at.returns-then-at-ge64 c).After-object-at) c.if-at-ge64.true
+    c.if-op-eq0.false
     c.if-op-eq1.false
 
 pub enter-requires : goal.enter-requires
@@ -59,18 +60,21 @@ enter-requires c =
 
 pub returns-then-op-eq2 : goal.returns-then-op-eq2
 returns-then-op-eq2 c =
-    plain_acquire (unpacked (goal.at.returns-then-op-eq2 c).After-object-at) c.if-at-ge64.false c.if-op-eq2.true _ _ _ c.enter.ensures
+    plain_acquire (unpacked (goal.at.returns-then-op-eq2 c).After-object-at) c.if-at-ge64.false
+    c.if-op-eq2.true _ _ _ c.enter.ensures
 
 pub leave-requires : goal.leave-requires
 leave-requires c =
     let u = unpacked (goal.at.leave-requires c).After-object-at in
     let s = c.requires in
-    let left = leaves_is _ _ u.op_is.1 (omega (arith, c.if-at-ge64.false, u.object_is)) (release (goal.at.leave-requires c).Else-at-ge64
+    let left = leaves_is _ _ u.op_is.1 (omega (arith, c.if-at-ge64.false, u.object_is))
+    (release (goal.at.leave-requires c).Else-at-ge64
     c.if-op-eq2.false) in
     let t = c.task-t.ensures in
     (left, t.0, t.1, c.if-at-ge64.false, u.object_is.1, s.3.holder)
 
 pub returns : goal.returns
 returns c =
-    plain_release (unpacked (goal.at.returns c).After-object-at) c.if-at-ge64.false (release (goal.at.returns c).Else-at-ge64 c.if-op-eq2.false) _ _ _
+    plain_release (unpacked (goal.at.returns c).After-object-at) c.if-at-ge64.false
+    (release (goal.at.returns c).Else-at-ge64 c.if-op-eq2.false) _ _ _
     c.leave.ensures

@@ -8,7 +8,8 @@ use Rattle.recording.proofs.check_plain.Given as goal
 
 abbrev pub invariant-loop-e : goal.invariant-loop-e
 invariant-loop-e l =
-    (1 ≤ l.e) × (l.e ≤ length l.records / 2 + 1) × Plain (decode_all l.records) l.e l.holders l.depths l.writes l.starts l.joins
+    (1 ≤ l.e) × (l.e ≤ length l.records / 2 + 1) × Plain (decode_all l.records) l.e l.holders l.depths
+    l.writes l.starts l.joins
 
 abbrev pub decreases-loop-e : goal.decreases-loop-e
 decreases-loop-e l =

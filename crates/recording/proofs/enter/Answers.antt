@@ -9,7 +9,11 @@ use Rattle.recording.proofs.enter.Goals.{Start}
 unpacked : (c : goal.Start)
     → Locked (decode_all c.args.records.now) c.args.e c.args.t c.args.l
     c.args.holders.now c.args.depths.now
-unpacked c = record { task_is = (c.requires.3, c.requires.4); object_is = (c.requires.5, c.requires.6); held = c.requires.7 }
+unpacked c = record {
+  task_is = (c.requires.3, c.requires.4);
+  object_is = (c.requires.5, c.requires.6);
+  held = c.requires.7;
+}
 
 pub returns-then-holders-l-eq0 : goal.returns-then-holders-l-eq0
 returns-then-holders-l-eq0 c =

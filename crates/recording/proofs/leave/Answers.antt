@@ -8,7 +8,11 @@ use Rattle.recording.proofs.leave.Goals.{Start}
 unpacked : (c : goal.Start)
     → Locked (decode_all c.args.records.now) c.args.e c.args.t c.args.l
     c.args.holders.now c.args.depths.now
-unpacked c = record { task_is = (c.requires.1, c.requires.2); object_is = (c.requires.3, c.requires.4); held = c.requires.5 }
+unpacked c = record {
+  task_is = (c.requires.1, c.requires.2);
+  object_is = (c.requires.3, c.requires.4);
+  held = c.requires.5;
+}
 
 pub returns-then-holders-l : goal.returns-then-holders-l
 returns-then-holders-l c =
@@ -16,7 +20,8 @@ returns-then-holders-l c =
 
 pub returns-then-depths-l-eq1 : goal.returns-then-depths-l-eq1
 returns-then-depths-l-eq1 c =
-    leave_freed (unpacked (goal.at.returns-then-depths-l-eq1 c).Start) c.if-holders-l.false c.requires.0 c.if-depths-l-eq1.true
+    leave_freed (unpacked (goal.at.returns-then-depths-l-eq1 c).Start) c.if-holders-l.false c.requires.0
+    c.if-depths-l-eq1.true
 
 pub returns : goal.returns
 returns c =

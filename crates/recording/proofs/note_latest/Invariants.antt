@@ -11,7 +11,8 @@ use Rattle.recording.proofs.note_latest.Given as goal
 
 abbrev pub invariant-loop-f : goal.invariant-loop-f
 invariant-loop-f l =
-    (1 ≤ l.f) × (l.f ≤ l.e) × (length l.latest ≡ tasks) × LatestEvents (λ g. true) (task (decode_all l.records)) l.f l.latest
+    (1 ≤ l.f) × (l.f ≤ l.e) × (length l.latest ≡ tasks) × LatestEvents (λ g. true)
+    (task (decode_all l.records)) l.f l.latest
 
 abbrev pub decreases-loop-f : goal.decreases-loop-f
 decreases-loop-f l = l.e - l.f

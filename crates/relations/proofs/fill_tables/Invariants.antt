@@ -9,7 +9,8 @@ use Rattle.relations.proofs.fill_tables.Given as goal
 abbrev pub invariant-loop-e : goal.invariant-loop-e
 invariant-loop-e l =
     (1 ≤ l.e) × (l.e ≤ length l.records / 2 + 1)
-    × Noted (decode_all l.records) l.e l.operations l.tasks l.objects l.holding l.predecessors l.writers l.matches l.latest l.writes
+    × Noted (decode_all l.records) l.e l.operations l.tasks l.objects l.holding l.predecessors l.writers
+    l.matches l.latest l.writes
     l.depths l.locksets l.acquires
 
 abbrev pub decreases-loop-e : goal.decreases-loop-e

@@ -27,7 +27,8 @@ returns-then-checked-ne0 c =
 pub returns-then-event-eq0 : goal.returns-then-event-eq0
 returns-then-event-eq0 c =
     c.refused-then-event-eq0.ensures
-    ∙ sym (relations_unknown c.args.recording.now c.args.event (accepted (goal.at.returns-then-event-eq0 c).Else-checked-ne0)
+    ∙ sym (relations_unknown c.args.recording.now c.args.event
+    (accepted (goal.at.returns-then-event-eq0 c).Else-checked-ne0)
     (is_event_false (trace c.args.recording.now) c.args.event
     (λ h. omega (arith, c.if-event-eq0.true))))
 
@@ -49,7 +50,8 @@ returns-then-n-event c =
     ))))
 
 pub slice_bounds-relations_of-count : goal.slice_bounds-relations_of-count
-slice_bounds-relations_of-count c = (check_bytes c.args.recording.now (accepted (goal.at.slice_bounds-relations_of-count c).Else-checked-ne0)).0
+slice_bounds-relations_of-count c = (check_bytes c.args.recording.now
+    (accepted (goal.at.slice_bounds-relations_of-count c).Else-checked-ne0)).0
 
 pub slice_bounds-relations_of-start : goal.slice_bounds-relations_of-start
 slice_bounds-relations_of-start c =

@@ -31,10 +31,12 @@ overflow_cast-result-2 c =
       arith,
       c.requires,
       decode_all-length c.args.records.now,
-      predecessor-fits (filled (goal.at.overflow_cast-result-2 c).After-matches-2-1) c.args.e c.requires.2 (inside (goal.at.overflow_cast-result-2 c).Start),
+      predecessor-fits (filled (goal.at.overflow_cast-result-2 c).After-matches-2-1) c.args.e c.requires.2
+          (inside (goal.at.overflow_cast-result-2 c).Start),
     )
 
 pub returns : goal.returns
 returns c =
     rw (c.unmarked.ensures, c.writer_of.ensures)
-    (tables_answer (filled (goal.at.returns c).After-matches-2-1) c.args.e c.requires.2 (inside (goal.at.returns c).Start))
+    (tables_answer (filled (goal.at.returns c).After-matches-2-1) c.args.e c.requires.2
+    (inside (goal.at.returns c).Start))

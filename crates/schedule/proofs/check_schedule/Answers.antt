@@ -43,9 +43,11 @@ judge-decided-requires c =
 pub returns-then-decided-eq0 : goal.returns-then-decided-eq0
 returns-then-decided-eq0 c =
     let is = rw (part-trace c.args.recording.now) at c.judge-decided.ensures in
-    sym (checked-none c.args.recording.now c.args.pattern.now c.args.schedule.now (accepted (goal.at.returns-then-decided-eq0 c).Else-checked-ne0) (sym is ∙ c.if-decided-eq0.true))
+    sym (checked-none c.args.recording.now c.args.pattern.now c.args.schedule.now
+    (accepted (goal.at.returns-then-decided-eq0 c).Else-checked-ne0) (sym is ∙ c.if-decided-eq0.true))
 
 pub returns : goal.returns
 returns c =
     let is = rw (part-trace c.args.recording.now) at c.judge-decided.ensures in
-    rw is (sym (checked_some c.args.recording.now c.args.pattern.now c.args.schedule.now (accepted (goal.at.returns c).Else-checked-ne0) (λ q. c.if-decided-eq0.false (is ∙ q))))
+    rw is (sym (checked_some c.args.recording.now c.args.pattern.now c.args.schedule.now
+    (accepted (goal.at.returns c).Else-checked-ne0) (λ q. c.if-decided-eq0.false (is ∙ q))))

@@ -18,14 +18,16 @@ pattern-lent : (c : goal.Else-not-lends_pattern)
 pattern-lent c = sym c.lends_pattern.ensures ∙ c.if-not-lends_pattern.false
 
 pub returns-then-not-lends_pattern : goal.returns-then-not-lends_pattern
-returns-then-not-lends_pattern c = answered-none (decode_all c.args.records.now) c.args.pattern.now c.args.schedule.now (sym c.lends_pattern.ensures ∙ c.if-not-lends_pattern.true)
+returns-then-not-lends_pattern c = answered-none (decode_all c.args.records.now) c.args.pattern.now
+    c.args.schedule.now (sym c.lends_pattern.ensures ∙ c.if-not-lends_pattern.true)
 
 pub witnessed-requires : goal.witnessed-requires
 witnessed-requires c = (
   c.requires.0,
   c.requires.1,
   c.requires.3,
-  lent_events (decode_all c.args.records.now) c.args.pattern.now (pattern-lent (goal.at.witnessed-requires c).Else-not-lends_pattern),
+  lent_events (decode_all c.args.records.now) c.args.pattern.now
+      (pattern-lent (goal.at.witnessed-requires c).Else-not-lends_pattern),
 )
 
 pub returns-then-witnessed : goal.returns-then-witnessed

@@ -65,13 +65,15 @@ is_next-requires c =
 pub returns-then-not-is_next : goal.returns-then-not-is_next
 returns-then-not-is_next c =
     let next = c.is_next in
-    asked_later _ (events_sound c.args.records.now c.requires.1) _ _ _ _ (inside (goal.at.returns-then-not-is_next c).Else-records-at)
+    asked_later _ (events_sound c.args.records.now c.requires.1) _ _ _ _
+    (inside (goal.at.returns-then-not-is_next c).Else-records-at)
     (sym next.ensures ∙ c.if-not-is_next.true)
 
 pub returns-then-op-eq0 : goal.returns-then-op-eq0
 returns-then-op-eq0 c =
     let (h, k) = (unpacked (goal.at.returns-then-op-eq0 c).After-operation-op).inside in
-    asked_read (unpacked (goal.at.returns-then-op-eq0 c).After-operation-op) _ _ c.if-op-eq0.true _ _ c.object.ensures
+    asked_read (unpacked (goal.at.returns-then-op-eq0 c).After-operation-op) _ _ c.if-op-eq0.true _ _
+    c.object.ensures
     (c.requires.2.reading.writer_at _ h k)
 
 pub is_ready-requires : goal.is_ready-requires
@@ -85,7 +87,8 @@ is_ready-requires c =
 pub returns-then-op-ne2 : goal.returns-then-op-ne2
 returns-then-op-ne2 c =
     let (h, k) = (unpacked (goal.at.returns-then-op-ne2 c).After-operation-op).inside in
-    asked_other (unpacked (goal.at.returns-then-op-ne2 c).After-operation-op) _ _ c.if-op-eq0.false c.if-op-ne2.true
+    asked_other (unpacked (goal.at.returns-then-op-ne2 c).After-operation-op) _ _ c.if-op-eq0.false
+    c.if-op-ne2.true
     (c.requires.2.reading.writer_at _ h k) c.is_ready.ensures
 
 pub returns-then-matches-at : goal.returns-then-matches-at
@@ -111,5 +114,6 @@ is_unlocked-requires c =
 
 pub returns : goal.returns
 returns c =
-    asked_acquire (unpacked (goal.at.returns c).After-operation-op) _ _ c.if-op-ne2.false c.if-matches-at.false _
+    asked_acquire (unpacked (goal.at.returns c).After-operation-op) _ _ c.if-op-ne2.false
+    c.if-matches-at.false _
     c.is_unlocked.ensures

@@ -9,7 +9,8 @@ use Rattle.schedule.proofs.keeps_order.Given as goal
 
 abbrev pub invariant-loop-i : goal.invariant-loop-i
 invariant-loop-i l =
-    (l.i ≤ length l.schedule / 2) × Walking (decode_all l.records) (numbers l.schedule) l.i l.last l.acquires l.writes
+    (l.i ≤ length l.schedule / 2) × Walking (decode_all l.records) (numbers l.schedule) l.i l.last
+    l.acquires l.writes
 
 abbrev pub decreases-loop-i : goal.decreases-loop-i
 decreases-loop-i l =

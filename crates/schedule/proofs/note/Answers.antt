@@ -28,7 +28,8 @@ unpacked c =
     }
 
 pub returns-then-op-eq1 : goal.returns-then-op-eq1
-returns-then-op-eq1 c = write_noted (unpacked (goal.at.returns-then-op-eq1 c).After-object-object) _ _ _ c.if-op-eq1.true
+returns-then-op-eq1 c =
+    write_noted (unpacked (goal.at.returns-then-op-eq1 c).After-object-object) _ _ _ c.if-op-eq1.true
 
 pub returns-then-op-ne2 : goal.returns-then-op-ne2
 returns-then-op-ne2 c =
@@ -44,7 +45,8 @@ bounds-acquires-object c =
 
 pub returns-then-matches-at : goal.returns-then-matches-at
 returns-then-matches-at c =
-    acquire_noted (unpacked (goal.at.returns-then-matches-at c).After-object-object) _ _ _ c.if-op-ne2.false c.if-matches-at.true
+    acquire_noted (unpacked (goal.at.returns-then-matches-at c).After-object-object) _ _ _ c.if-op-ne2.false
+    c.if-matches-at.true
 
 pub returns-else-matches-at : goal.returns-else-matches-at
 returns-else-matches-at c =

@@ -38,7 +38,8 @@ release c = omega (
 )
 
 pub returns-then-op-lt2 : goal.returns-then-op-lt2
-returns-then-op-lt2 c = access-kind (unpacked (goal.at.returns-then-op-lt2 c).After-operation-op) c.if-op-lt2.true
+returns-then-op-lt2 c =
+    access-kind (unpacked (goal.at.returns-then-op-lt2 c).After-operation-op) c.if-op-lt2.true
 
 pub returns-then-l-ge64 : goal.returns-then-l-ge64
 returns-then-l-ge64 c =
@@ -47,29 +48,37 @@ returns-then-l-ge64 c =
 
 pub returns-then-not-in_mask : goal.returns-then-not-in_mask
 returns-then-not-in_mask c =
-    enter_outer (unpacked (goal.at.returns-then-not-in_mask c).After-operation-op) (is-object (goal.at.returns-then-not-in_mask c).Else-l-ge64) c.if-l-ge64.false c.if-op-eq2.true
+    enter_outer (unpacked (goal.at.returns-then-not-in_mask c).After-operation-op)
+    (is-object (goal.at.returns-then-not-in_mask c).Else-l-ge64) c.if-l-ge64.false c.if-op-eq2.true
     (rw c.requires.4 at (sym c.in_mask.ensures ∙ c.if-not-in_mask.true))
 
 pub overflow_add-depths : goal.overflow_add-depths
 overflow_add-depths c =
-    let fits = depth-fits (unpacked (goal.at.overflow_add-depths c).After-operation-op) (is-object (goal.at.overflow_add-depths c).Else-l-ge64) c.if-l-ge64.false in
+    let fits = depth-fits (unpacked (goal.at.overflow_add-depths c).After-operation-op)
+    (is-object (goal.at.overflow_add-depths c).Else-l-ge64) c.if-l-ge64.false in
     omega (arith, c.requires.2)
 
 pub returns-then-op-eq2 : goal.returns-then-op-eq2
 returns-then-op-eq2 c =
-    enter_inner (unpacked (goal.at.returns-then-op-eq2 c).After-operation-op) (is-object (goal.at.returns-then-op-eq2 c).Else-l-ge64) c.if-l-ge64.false c.if-op-eq2.true
+    enter_inner (unpacked (goal.at.returns-then-op-eq2 c).After-operation-op)
+    (is-object (goal.at.returns-then-op-eq2 c).Else-l-ge64) c.if-l-ge64.false c.if-op-eq2.true
     (rw c.requires.4 at (sym c.in_mask.ensures ∙ c.if-not-in_mask.false))
 
 pub returns-then-depths-l-eq1 : goal.returns-then-depths-l-eq1
 returns-then-depths-l-eq1 c =
-    leave_outer (unpacked (goal.at.returns-then-depths-l-eq1 c).After-operation-op) (is-object (goal.at.returns-then-depths-l-eq1 c).Else-l-ge64) c.if-l-ge64.false (release (goal.at.returns-then-depths-l-eq1 c).Else-op-eq2)
+    leave_outer (unpacked (goal.at.returns-then-depths-l-eq1 c).After-operation-op)
+    (is-object (goal.at.returns-then-depths-l-eq1 c).Else-l-ge64) c.if-l-ge64.false
+    (release (goal.at.returns-then-depths-l-eq1 c).Else-op-eq2)
     c.if-depths-l-eq1.true
 
 pub overflow_sub-depths : goal.overflow_sub-depths
 overflow_sub-depths c =
-    leave_deep (unpacked (goal.at.overflow_sub-depths c).After-operation-op) (is-object (goal.at.overflow_sub-depths c).Else-l-ge64) c.if-l-ge64.false (release (goal.at.overflow_sub-depths c).Else-op-eq2)
+    leave_deep (unpacked (goal.at.overflow_sub-depths c).After-operation-op)
+    (is-object (goal.at.overflow_sub-depths c).Else-l-ge64) c.if-l-ge64.false
+    (release (goal.at.overflow_sub-depths c).Else-op-eq2)
 
 pub returns : goal.returns
 returns c =
-    leave_inner (unpacked (goal.at.returns c).After-operation-op) (is-object (goal.at.returns c).Else-l-ge64) c.if-l-ge64.false (release (goal.at.returns c).Else-op-eq2)
+    leave_inner (unpacked (goal.at.returns c).After-operation-op) (is-object (goal.at.returns c).Else-l-ge64)
+    c.if-l-ge64.false (release (goal.at.returns c).Else-op-eq2)
     c.if-depths-l-eq1.false

@@ -20,18 +20,28 @@ known c = record {
 pub overflow_shl-locksets : goal.overflow_shl-locksets
 overflow_shl-locksets c =
     let is = c.if-k-eq2.true in
-    omega (arith, lock_bound (known (goal.at.overflow_shl-locksets c).Start) (omega arith) (omega arith), c.object.ensures)
+    omega (
+      arith,
+      lock_bound (known (goal.at.overflow_shl-locksets c).Start) (omega arith) (omega arith),
+      c.object.ensures,
+    )
 
 pub returns-then-k-eq2 : goal.returns-then-k-eq2
 returns-then-k-eq2 c =
-    acquire_noted (known (goal.at.returns-then-k-eq2 c).Start) c.task-t.ensures c.args.locksets.now c.requires.5
+    acquire_noted (known (goal.at.returns-then-k-eq2 c).Start) c.task-t.ensures
+    c.args.locksets.now c.requires.5
     c.if-k-eq2.true
     c.object.ensures
 
 pub overflow_shl-locksets-then-k-eq3 : goal.overflow_shl-locksets-then-k-eq3
 overflow_shl-locksets-then-k-eq3 c =
     let is = c.if-k-eq3.true in
-    omega (arith, lock_bound (known (goal.at.overflow_shl-locksets-then-k-eq3 c).Start) (omega arith) (omega arith), c.object-then-k-eq3.ensures)
+    omega (
+      arith,
+      lock_bound (known (goal.at.overflow_shl-locksets-then-k-eq3 c).Start) (omega arith)
+          (omega arith),
+      c.object-then-k-eq3.ensures,
+    )
 
 pub returns-then-k-eq3 : goal.returns-then-k-eq3
 returns-then-k-eq3 c =
@@ -41,6 +51,7 @@ returns-then-k-eq3 c =
 
 pub returns-else-k-eq3 : goal.returns-else-k-eq3
 returns-else-k-eq3 c =
-    access_noted (known (goal.at.returns-else-k-eq3 c).Start) c.task-t.ensures c.args.locksets.now c.requires.5
+    access_noted (known (goal.at.returns-else-k-eq3 c).Start) c.task-t.ensures
+    c.args.locksets.now c.requires.5
     c.if-k-eq2.false
     c.if-k-eq3.false

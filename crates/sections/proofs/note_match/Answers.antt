@@ -25,7 +25,8 @@ known c = record {
 opened : (c : goal.Then-k-eq3) → let a = c.args in
     get_or a.acquires.now c.object-l.result 0 < a.e
 opened c =
-    opened_bound (known (goal.at.Then-k-eq3 c).Start) c.object-l.ensures c.args.acquires.now c.requires.6 c.requires.9
+    opened_bound (known (goal.at.Then-k-eq3 c).Start) c.object-l.ensures c.args.acquires.now
+    c.requires.6 c.requires.9
     c.if-k-eq3.true
 
 pub bounds-acquires-l : goal.bounds-acquires-l
@@ -42,24 +43,29 @@ pub returns-then-k-eq3 : goal.returns-then-k-eq3
 returns-then-k-eq3 c =
     let is-object = c.object-l.ensures in (
       search rules,
-      release_matched (known (goal.at.returns-then-k-eq3 c).Start) is-object c.args.acquires.now c.requires.6 c.requires.9
+      release_matched (known (goal.at.returns-then-k-eq3 c).Start) is-object c.args.acquires.now
+          c.requires.6 c.requires.9
           c.if-k-eq3.true c.args.matches.now c.requires.8 (search rules),
-      no_acquire_latest (known (goal.at.returns-then-k-eq3 c).Start) is-object c.args.acquires.now c.requires.6 c.requires.9
+      no_acquire_latest (known (goal.at.returns-then-k-eq3 c).Start) is-object c.args.acquires.now
+          c.requires.6 c.requires.9
           (omega (arith, c.if-k-eq3.true)),
     )
 
 pub returns-then-k-eq4 : goal.returns-then-k-eq4
 returns-then-k-eq4 c = (
   search rules,
-  uncounted-marked (known (goal.at.returns-then-k-eq4 c).Start) c.args.matches.now c.requires.8 (search rules) c.if-k-eq4.true,
-  no_acquire_latest (known (goal.at.returns-then-k-eq4 c).Start) c.object-l.ensures c.args.acquires.now c.requires.6
+  uncounted-marked (known (goal.at.returns-then-k-eq4 c).Start) c.args.matches.now c.requires.8 (search rules)
+      c.if-k-eq4.true,
+  no_acquire_latest (known (goal.at.returns-then-k-eq4 c).Start) c.object-l.ensures
+      c.args.acquires.now c.requires.6
       c.requires.9 (omega (arith, c.if-k-eq4.true)),
 )
 
 pub bounds-acquires-l-then-k-eq2 : goal.bounds-acquires-l-then-k-eq2
 bounds-acquires-l-then-k-eq2 c =
     let is = c.if-k-eq2.true in
-    let small = lock_bound (known (goal.at.bounds-acquires-l-then-k-eq2 c).Start) (omega arith) (omega arith) in
+    let small = lock_bound (known (goal.at.bounds-acquires-l-then-k-eq2 c).Start) (omega arith)
+    (omega arith) in
     omega (arith, c.object-l.ensures, c.requires.6)
 
 pub returns-then-k-eq2 : goal.returns-then-k-eq2
@@ -68,14 +74,17 @@ returns-then-k-eq2 c =
       search rules,
       no_release_matched (known (goal.at.returns-then-k-eq2 c).Start) c.args.matches.now c.requires.8
           (search rules) c.if-k-eq3.false c.if-k-eq4.false,
-      acquire_latest (known (goal.at.returns-then-k-eq2 c).Start) is-object c.args.acquires.now c.requires.6 c.requires.9 c.if-k-eq2.true,
+      acquire_latest (known (goal.at.returns-then-k-eq2 c).Start) is-object c.args.acquires.now c.requires.6
+          c.requires.9 c.if-k-eq2.true,
     )
 
 pub returns-else-k-eq2 : goal.returns-else-k-eq2
 returns-else-k-eq2 c =
     let is-object = c.object-l.ensures in (
       search rules,
-      no_release_matched (known (goal.at.returns-else-k-eq2 c).Start) c.args.matches.now c.requires.8 (search rules)
+      no_release_matched (known (goal.at.returns-else-k-eq2 c).Start) c.args.matches.now c.requires.8
+          (search rules)
           c.if-k-eq3.false c.if-k-eq4.false,
-      no_acquire_latest (known (goal.at.returns-else-k-eq2 c).Start) is-object c.args.acquires.now c.requires.6 c.requires.9 c.if-k-eq2.false,
+      no_acquire_latest (known (goal.at.returns-else-k-eq2 c).Start) is-object c.args.acquires.now
+          c.requires.6 c.requires.9 c.if-k-eq2.false,
     )

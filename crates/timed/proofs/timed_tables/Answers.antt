@@ -19,12 +19,14 @@ event_count-n-requires c =
 
 pub slice_bounds-compare_entries-count : goal.slice_bounds-compare_entries-count
 slice_bounds-compare_entries-count c =
-    (check_bytes c.args.recording.now (accepted (goal.at.slice_bounds-compare_entries-count c).Else-checked-ne0)).0
+    (check_bytes c.args.recording.now
+    (accepted (goal.at.slice_bounds-compare_entries-count c).Else-checked-ne0)).0
 
 pub slice_bounds-compare_entries-start : goal.slice_bounds-compare_entries-start
 slice_bounds-compare_entries-start c =
     let h =
-    (check_bytes c.args.recording.now (accepted (goal.at.slice_bounds-compare_entries-start c).Else-checked-ne0)).0 in
+    (check_bytes c.args.recording.now
+    (accepted (goal.at.slice_bounds-compare_entries-start c).Else-checked-ne0)).0 in
     search rules
 
 pub compare_entries-requires : goal.compare_entries-requires

@@ -19,7 +19,8 @@ slice_bounds-decide_with_tables-count c = (check_bytes c.args.recording.now
 
 pub slice_bounds-decide_with_tables-start : goal.slice_bounds-decide_with_tables-start
 slice_bounds-decide_with_tables-start c =
-    let h = (check_bytes c.args.recording.now (accepted (goal.at.slice_bounds-decide_with_tables-start c).Else-checked-ne0)).0
+    let h = (check_bytes c.args.recording.now
+    (accepted (goal.at.slice_bounds-decide_with_tables-start c).Else-checked-ne0)).0
     in search rules
 
 pub decide_with_tables-requires : goal.decide_with_tables-requires

@@ -8,7 +8,8 @@ use Rattle.words.proofs.count.Given as goal
 
 abbrev pub invariant-loop-k : goal.invariant-loop-k
 invariant-loop-k l =
-    (l.k ≤ length l.words) × (l.sum ≤ 64 * l.k) × (l.sum ≡ length (filter (row_bit 64 l.words) (from 0 (64 * l.k))))
+    (l.k ≤ length l.words) × (l.sum ≤ 64 * l.k)
+    × (l.sum ≡ length (filter (row_bit 64 l.words) (from 0 (64 * l.k))))
 
 abbrev pub decreases-loop-k : goal.decreases-loop-k
 decreases-loop-k l = length l.words - l.k

@@ -6,8 +6,10 @@ use native.Mathlib.Omega.{arith}
 use lib.Seq.{get_or-set_other, get_or-take}
 use Rattle.laws.proofs.Trace.{decode_all-length}
 use Rattle.entries.proofs.Laws.{adds_none}
-use Rattle.listing.proofs.Paths.{kept_less, path-kept, returning_fewer, follows_acquire, descend-completes, descend_longer, descend_nothing, descend_open}
-use Rattle.listing.proofs.Steps.{kept-start, step_end, still_events, still_returning, kept_reusable, kept_next, descending, step_over, step-next}
+use Rattle.listing.proofs.Paths.{kept_less, path-kept, returning_fewer, follows_acquire, descend-completes}
+use Rattle.listing.proofs.Paths.{descend_longer, descend_nothing, descend_open}
+use Rattle.listing.proofs.Steps.{kept-start, step_end, still_events, still_returning, kept_reusable}
+use Rattle.listing.proofs.Steps.{kept_next, descending, step_over, step-next}
 use Rattle.listing.proofs.Scans.{scanning-start, scanning_acquire}
 use Rattle.laws.proofs.Questions.{events_sound}
 use lib.ListN.{length, get_or, take, length-take}
@@ -121,7 +123,8 @@ descend-returns t c =
 pub extend-following-e-requires : goal.extend-following-e-requires
 extend-following-e-requires t c =
     let o = c.requires.1 in
-    let last = chain_event t (goal.at.extend-following-e-requires t c).Start (c.args.len - 1) (omega (arith, o.some)) in (
+    let last = chain_event t (goal.at.extend-following-e-requires t c).Start (c.args.len - 1)
+    (omega (arith, o.some)) in (
       last.0,
       last.1,
       (chain_event t (goal.at.extend-following-e-requires t c).Start 0 (omega (arith, o.some))).1,
@@ -138,7 +141,8 @@ extend-loop-e-init t c = (
   c.requires.1.long,
   refl,
   refl,
-  scanning-start (first_event t (goal.at.extend-loop-e-init t c).Start) c.following-e.ensures c.requires.4 c.requires.5,
+  scanning-start (first_event t (goal.at.extend-loop-e-init t c).Start) c.following-e.ensures c.requires.4
+      c.requires.5,
   kept-start,
 )
 
@@ -147,7 +151,8 @@ extend-returns t c =
     let l = c.loop-e in (
       l.invariant.3.roomy,
       l.invariant.1,
-      step_end (first_event t (goal.at.extend-returns t c).Start) c.requires.2 l.invariant.3 c.loop-e-test.false,
+      step_end (first_event t (goal.at.extend-returns t c).Start) c.requires.2 l.invariant.3
+          c.loop-e-test.false,
     )
 
 pub extend-attempt-met-requires : goal.extend-attempt-met-requires
@@ -202,13 +207,15 @@ extend-returns-then-full t c =
     let done = c.descend-taken.ensures in (
       done.0,
       done.1 ∙ l.invariant.1,
-      step_over c.requires.1 l.path l.invariant.0 l.invariant.1 c.requires.2 (first_event t (goal.at.extend-returns-then-full t c).Start)
+      step_over c.requires.1 l.path l.invariant.0 l.invariant.1 c.requires.2
+          (first_event t (goal.at.extend-returns-then-full t c).Start)
           l.invariant.3 c.loop-e-test.true done.2 c.if-full.true,
     )
 
 pub extend-following-e-requires-in-loop-e : goal.extend-following-e-requires-in-loop-e
 extend-following-e-requires-in-loop-e t c =
-    let last = chain_event t (goal.at.extend-following-e-requires-in-loop-e t c).Start (c.args.len - 1) (omega (arith, c.requires.1.some)) in
+    let last = chain_event t (goal.at.extend-following-e-requires-in-loop-e t c).Start (c.args.len - 1)
+    (omega (arith, c.requires.1.some)) in
     let e = c.loop-e.invariant.3.event c.loop-e-test.true in (
       last.0,
       last.1,
@@ -230,7 +237,8 @@ extend-loop-e-preserved t c =
       c.descend-taken.auto.path ∙ l.invariant.0,
       done.1 ∙ l.invariant.1,
       c.descend-taken.auto.out ∙ l.invariant.2,
-      step-next c.requires.1 l.path l.invariant.0 l.invariant.1 c.requires.2 (first_event t (goal.at.extend-loop-e-preserved t c).Start)
+      step-next c.requires.1 l.path l.invariant.0 l.invariant.1 c.requires.2
+          (first_event t (goal.at.extend-loop-e-preserved t c).Start)
           l.invariant.3 d done.2 attempted.0 c.exclude-excluded.ensures c.following-e-in-loop-e.ensures
           done.0
           c.if-full.false,

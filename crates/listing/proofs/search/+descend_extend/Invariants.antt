@@ -1,4 +1,5 @@
--- The cycle of `listing::search::descend` and `listing::search::extend`: its measures, and the invariant of the
+-- The cycle of `listing::search::descend` and `listing::search::extend`: its measures, and the invariant of
+-- the
 -- scan. Assumes nothing.
 use Prim.Native.Nat.{◌+◌, ◌-◌, ◌*◌}
 use mathlib.Core.Path.{◌≡◌}

@@ -50,6 +50,7 @@ returns c =
     let b = c.args.records.now in
     let done = c.begin.ensures in (
       done.0,
-      rw (beginning_acquire (decode_all b) _ c.args.a (is_true (is_acquire (decode_all b) c.args.a) c.requires.4))
+      rw (beginning_acquire (decode_all b) _ c.args.a
+          (is_true (is_acquire (decode_all b) c.args.a) c.requires.4))
           done.1,
     )
