@@ -1,6 +1,6 @@
 -- The frontier of the closure of a set in words, and a refused answer.
 use Rattle.std.specs.Prelude.{ℕ, ◌-◌, ◌≤◌, ◌≡◌, List, leb, length, get_or}
-use Rattle.model.specs.declared.Closed.{Closed}
+use Rattle.model.specs.Answers.{Closed}
 use Rattle.model.specs.Trace.{Trace, task}
 use Rattle.model.specs.EventSet.{has, lent_bit, lent_set}
 use Rattle.model.specs.Closure.{closure}

@@ -1,7 +1,7 @@
 -- The witness call of a recording that is accepted, from its trace on. That it is the call's answer and
 -- output, which `model` defines from the bytes, is in proofs/Answers.
 use Rattle.std.specs.Prelude.{ℕ, true, cond, List, eqb, leb, length}
-use Rattle.model.specs.declared.Witness.{Witness}
+use Rattle.model.specs.Answers.{Witness}
 use Rattle.model.specs.Bytes.{encode, numbers, written}
 use Rattle.model.specs.Trace.{Trace}
 use Rattle.model.specs.Calls.Witness.{least_schedule}

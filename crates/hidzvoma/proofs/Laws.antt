@@ -8,7 +8,7 @@ use native.Mathlib.Omega.{arith}
 use lib.Dec.{eqb, leb, ltb}
 use lib.ListN.{length, get_or, drop, length-drop}
 use borrow.Author.Tests.{eqb-false}
-use Rattle.model.specs.declared.Outcome.{Outcome}
+use Rattle.model.specs.Answers.{Outcome}
 use Rattle.model.specs.Recording.{format, event_count, trace}
 use Rattle.model.specs.WellFormed.{is_free, is_new, is_over, joins_own, fault, first_fault}
 use Rattle.model.specs.Trace.{Trace, sync_objects, task, object, is_read, has_acquire_op, has_release_op}

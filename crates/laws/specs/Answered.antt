@@ -1,11 +1,11 @@
 -- The shapes of answers, refused and not, for the contracts of inner functions.
 use Rattle.std.specs.Prelude.{ℕ, false, length}
 use Rattle.std.specs.Int.Count.{ones}
-use Rattle.model.specs.declared.Relations.{Relations}
-use Rattle.model.specs.declared.Load.{Load}
-use Rattle.model.specs.declared.Listed.{Listed}
-use Rattle.model.specs.declared.Verdict.{Verdict}
-use Rattle.model.specs.declared.Witness.{Witness}
+use Rattle.model.specs.Answers.{Relations}
+use Rattle.model.specs.Answers.{Load}
+use Rattle.model.specs.Answers.{Listed}
+use Rattle.model.specs.Answers.{Verdict}
+use Rattle.model.specs.Answers.{Witness}
 use Rattle.model.specs.Trace.{Trace}
 use Rattle.model.specs.Relations.{predecessor, writer, matching, held}
 use Rattle.model.specs.Calls.Load.{held_events, percent}

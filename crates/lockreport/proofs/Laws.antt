@@ -6,7 +6,7 @@ use native.Mathlib.Omega.{arith}
 use native.Mathlib.Nat.{add-zero}
 use lib.ListN.{length, get_or, take, drop, length-drop, length-append}
 use lib.Seq.{take-append_seam, drop-append_seam, drop-drop, get_or-drop}
-use Rattle.model.specs.declared.Listed.{Listed}
+use Rattle.model.specs.Answers.{Listed}
 use Rattle.model.specs.Bytes.{numbers, encode}
 use Rattle.model.specs.Calls.List.{entries, listing, list, list_out}
 use Rattle.laws.proofs.Bytes.{numbers-at, encode-length}

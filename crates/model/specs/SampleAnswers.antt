@@ -2,7 +2,7 @@
 -- of facts and one proof, by computation; loads are in SamplePercents, largest sizes in SampleSizes.
 use Rattle.std.specs.Prelude.{ℕ, ◌+◌, ◌*◌, ◌≡◌, refl, List, [], ◌∷◌, ◌++◌}
 use Rattle.std.specs.Int.Count.{ones, ones_in}
-use Rattle.model.specs.declared.Relations.{Relations}
+use Rattle.model.specs.Answers.{Relations}
 use Rattle.model.specs.Bytes.{encode}
 use Rattle.model.specs.Calls.Relations.{relations, relations_refusal}
 use Rattle.model.specs.Calls.Close.{close, close_out}

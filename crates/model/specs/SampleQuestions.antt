@@ -1,9 +1,9 @@
 -- What the rows leave out of the questions: each number that no row is refused by, and which of two "no"
 -- decides. One record of facts and one proof, by computation.
 use Rattle.std.specs.Prelude.{ℕ, ◌≡◌, refl, false, [], ◌∷◌, ◌++◌}
-use Rattle.model.specs.declared.Verdict.{Verdict}
-use Rattle.model.specs.declared.Listed.{Listed}
-use Rattle.model.specs.declared.Witness.{Witness}
+use Rattle.model.specs.Answers.{Verdict}
+use Rattle.model.specs.Answers.{Listed}
+use Rattle.model.specs.Answers.{Witness}
 use Rattle.model.specs.Bytes.{encode}
 use Rattle.model.specs.Calls.Questions.{outcome}
 use Rattle.model.specs.Calls.Check.{check}

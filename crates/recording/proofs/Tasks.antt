@@ -25,11 +25,6 @@ pub record Starting (σ : Trace) (e t u : ℕ) (latest starts joins : List ℕ) 
   pub started : (length starts ≡ tasks) × LatestEvents (is_start σ) (target σ) e starts
   pub joined : (length joins ≡ tasks) × LatestEvents (is_join σ) (target σ) e joins
 
--- What question 15 answers to start e, and the table that it leaves.
-abbrev Started : Trace → ℕ → ℕ → List ℕ → Type 0
-Started σ e r starts =
-    (r ≡ cond (is_new σ e) 0 15) × (r ≡ 0 → LatestEvents (is_start σ) (target σ) (e + 1) starts)
-
 module _ {σ : Trace} {e t u : ℕ} {latest starts joins : List ℕ}
     (s : Starting σ e t u latest starts joins) where
   new_is : is_new σ e
@@ -40,28 +35,28 @@ module _ {σ : Trace} {e t u : ℕ} {latest starts joins : List ℕ}
       (omega (arith, s.target_is, s.events.0)) (omega (arith, s.target_is, s.started.0))
       (omega (arith, s.target_is, s.joined.0)))
 
-  refused : is_new σ e ≡ false → Started σ e 15 starts
-  refused n = (rw n, λ q. absurd (omega arith))
+  refused : is_new σ e ≡ false → ◌≡◌ {A = ℕ} 15 (cond (is_new σ e) 0 15)
+  refused n = rw n
 
   -- A start of the own task,
-  pub start_own : u ≡ t → Started σ e 15 starts
+  pub start_own : u ≡ t → ◌≡◌ {A = ℕ} 15 (cond (is_new σ e) 0 15)
   start_own q = refused (new_is ∙ rw (eq-eqb u t q))
 
   -- of one that was started,
-  pub start-again : get_or starts u 0 ≢ 0 → Started σ e 15 starts
+  pub start-again : get_or starts u 0 ≢ 0 → ◌≡◌ {A = ℕ} 15 (cond (is_new σ e) 0 15)
   start-again d = refused (new_is ∙ rw (ne_eqb (get_or starts u 0) 0 d, and-false))
 
   -- of one that was joined,
-  pub start_late : get_or joins u 0 ≢ 0 → Started σ e 15 starts
+  pub start_late : get_or joins u 0 ≢ 0 → ◌≡◌ {A = ℕ} 15 (cond (is_new σ e) 0 15)
   start_late d = refused (new_is ∙ rw (ne_eqb (get_or joins u 0) 0 d, and-false))
 
   -- of one with events,
-  pub start_busy : get_or latest u 0 ≢ 0 → Started σ e 15 starts
+  pub start_busy : get_or latest u 0 ≢ 0 → ◌≡◌ {A = ℕ} 15 (cond (is_new σ e) 0 15)
   start_busy d = refused (new_is ∙ rw (ne_eqb (get_or latest u 0) 0 d, and-false))
 
   -- and of a new one.
   pub start_new : u ≢ t → get_or starts u 0 ≡ 0 → get_or joins u 0 ≡ 0 → get_or latest u 0 ≡ 0
-      → Started σ e 0 (set starts u e)
+      → (◌≡◌ {A = ℕ} 0 (cond (is_new σ e) 0 15)) × LatestEvents (is_start σ) (target σ) (e + 1) (set starts u e)
   start_new a b c d = (
     rw (
       new_is,
@@ -70,7 +65,7 @@ module _ {σ : Trace} {e t u : ℕ} {latest starts joins : List ℕ}
       eq-eqb (get_or joins u 0) 0 c,
       eq-eqb (get_or latest u 0) 0 d,
     ),
-    λ _. rw (add-one e, s.target_is.1)
+    rw (add-one e, s.target_is.1)
         (latest-set (is_start σ) (target σ) e starts s.started.1 s.a_start
         (omega (arith, s.target_is, s.started.0))),
   )
@@ -82,25 +77,18 @@ pub record Joining (σ : Trace) (e t u : ℕ) (joins : List ℕ) : Type 0 where
   pub target_is : (u < tasks) × (u ≡ target σ e)
   pub joined : (length joins ≡ tasks) × LatestEvents (is_join σ) (target σ) e joins
 
--- What the first part of question 16 answers to join e, and the table that it leaves.
-abbrev Joined : Trace → ℕ → ℕ → List ℕ → Type 0
-Joined σ e r joins =
-    (r ≡ cond (eqb (target σ e) (task σ e)) 16 0)
-    × (r ≡ 0 → LatestEvents (is_join σ) (target σ) (e + 1) joins)
-
 module _ {σ : Trace} {e t u : ℕ} {joins : List ℕ} (s : Joining σ e t u joins) where
   -- A join of the own task,
-  pub join_own : u ≡ t → Joined σ e 16 joins
-  join_own q = (
-    rw (eq-eqb (target σ e) (task σ e) (sym s.target_is.1 ∙ q ∙ s.task_is)),
-    λ q. absurd (omega arith),
-  )
+  pub join_own : u ≡ t → ◌≡◌ {A = ℕ} 16 (cond (eqb (target σ e) (task σ e)) 16 0)
+  join_own q = rw (eq-eqb (target σ e) (task σ e) (sym s.target_is.1 ∙ q ∙ s.task_is))
 
   -- and of another one.
-  pub join_other : u ≢ t → Joined σ e 0 (set joins u e)
+  pub join_other : u ≢ t
+      → (◌≡◌ {A = ℕ} 0 (cond (eqb (target σ e) (task σ e)) 16 0))
+      × LatestEvents (is_join σ) (target σ) (e + 1) (set joins u e)
   join_other d = (
     rw (ne_eqb (target σ e) (task σ e) (λ q. d (s.target_is.1 ∙ q ∙ sym s.task_is))),
-    λ _. rw (add-one e, s.target_is.1)
+    rw (add-one e, s.target_is.1)
         (latest-set (is_join σ) (target σ) e joins s.joined.1 s.a_join
         (omega (arith, s.target_is, s.joined.0))),
   )

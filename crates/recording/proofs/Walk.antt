@@ -1,9 +1,9 @@
 -- How the check goes on from event to event: that a task is over is asked last, and the first fault decides.
 -- Assumes nothing.
 use Prim.Native.Nat.{ℕ, ◌+◌, ◌/◌, ◌≤◌, ◌<◌}
-use mathlib.Core.Path.{◌≡◌, sym, ◌∙◌}
+use mathlib.Core.Path.{◌≡◌, refl, sym, ◌∙◌}
 use mathlib.Core.Logic.{⊎_elim, ◌≢◌}
-use mathlib.Core.Bool.{true, false, cond, not, ◌||◌}
+use mathlib.Core.Bool.{true, false, not, ◌||◌}
 use mathlib.Core.List.{List}
 use native.Mathlib.Numerals.{add-one}
 use native.Mathlib.Omega.{arith}
@@ -24,58 +24,54 @@ use Rattle.laws.proofs.Trace.{decode_all-length}
 use Rattle.laws.proofs.LatestEvents.{latest-start, latest-set, latest_over}
 use Rattle.laws.proofs.Kept.{holders-start}
 use Rattle.laws.proofs.Faults.{check_events-fault, check_events-none}
-use Rattle.recording.specs.Asked.{Done, Plain, Asked}
+use Rattle.recording.specs.declared.Past.{Past}
+use Rattle.recording.specs.Asked.{Done, Passes, Plain, Asking}
 
 -- ---- one event
 
--- An event with its task, the latest join of that, and what it is refused with unless its task is over.
-pub record Answered (σ : Trace) (e t over r : ℕ) : Type 0 where
-  pub task_is : (t < tasks) × (t ≡ task σ e)
-  pub over_is : is_over σ e ≡ not (eqb over 0)
-  pub answer : fault σ e ≡ cond (eqb r 0) (cond (is_over σ e) 16 0) r
-
--- The latest join of an event's task, by the table.
-pub over-at : {σ : Trace} {e t : ℕ} {holders depths writes latest starts joins : List ℕ}
-    → Asked σ e holders depths writes latest starts joins → (t < tasks) × (t ≡ task σ e)
-    → is_over σ e ≡ not (eqb (get_or joins t 0) 0)
-over-at {σ} {e} {t} {joins} z (small, q) =
-    rw q (latest_over σ e joins z.done.joined (omega (arith, z.done.joins_long)))
-
-module _ {σ : Trace} {e t over r : ℕ} (u : Answered σ e t over r) where
-  -- A refusal before that is the event's.
-  pub answer_refused : r ≢ 0 → r ≡ fault σ e
-  answer_refused d = sym (u.answer ∙ rw (ne_eqb r 0 d))
-
+-- An event of task t, whose latest join is `over`, that no question before that refuses.
+module _ (σ : Trace) (e t over : ℕ) (past : Past) (task_is : (t < tasks) × (t ≡ task σ e))
+    (over_is : is_over σ e ≡ not (eqb over 0)) (z : Passes σ e past) where
   -- An event of a task that is over.
-  pub answer_over : r ≡ 0 → over ≢ 0 → 16 ≡ fault σ e
-  answer_over q d = sym (u.answer ∙ rw (eq-eqb r 0 q, u.over_is, ne_eqb over 0 d))
+  pub answer_over : over ≢ 0 → ◌≡◌ {A = ℕ} 16 (fault σ e)
+  answer_over d = sym (z.0 ∙ rw (over_is, ne_eqb over 0 d))
 
   -- An event without a fault is the latest of its task.
-  pub answer_passed : {holders depths writes latest starts joins hs ds ws ss js : List ℕ} → r ≡ 0 → over ≡ 0
-      → Asked σ e holders depths writes latest starts joins → Done σ (e + 1) hs ds ws ss js
-      → (0 ≡ fault σ e) × (◌≡◌ {A = ℕ} 0 0 → Asked σ (e + 1) hs ds ws (set latest t e) ss js)
-  answer_passed {latest} {hs} {ds} {ws} {ss} {js} q n z done = (sym none, λ _. next)
+  pub answer_passed : {before : Past} {latest : List ℕ} → over ≡ 0 → Asking σ e before latest
+      → (◌≡◌ {A = ℕ} 0 (fault σ e)) × Asking σ (e + 1) past (set latest t e)
+  answer_passed {latest} n y = (sym none, next)
     where
       none : fault σ e ≡ 0
-      none = u.answer ∙ rw (eq-eqb r 0 q, u.over_is, eq-eqb over 0 n)
+      none = z.0 ∙ rw (over_is, eq-eqb over 0 n)
 
-      next : Asked σ (e + 1) hs ds ws (set latest t e) ss js
+      next : Asking σ (e + 1) past (set latest t e)
       next = record {
-        faultless = λ f a b. ⊎_elim (λ (s : f ≡ e). rw s none) (λ d. z.faultless f a (omega arith))
+        faultless = λ f a b. ⊎_elim (λ (s : f ≡ e). rw s none) (λ d. y.faultless f a (omega arith))
             (equal? f e);
-        done = done;
-        latest_long = length-set latest t e ∙ z.latest_long;
-        events = rw (add-one e, u.task_is.1)
-            (latest-set (λ f. true) (task σ) e latest z.events tt
-            (omega (arith, u.task_is, z.latest_long)));
+        done = z.1;
+        latest_long = length-set latest t e ∙ y.latest_long;
+        events = rw (add-one e, task_is.1)
+            (latest-set (λ f. true) (task σ) e latest y.events tt
+            (omega (arith, task_is, y.latest_long)));
       }
+
+-- The latest join of an event's task, by the table.
+pub over-at : {σ : Trace} {e t : ℕ} {past : Past} {latest : List ℕ}
+    → Asking σ e past latest → (t < tasks) × (t ≡ task σ e)
+    → is_over σ e ≡ not (eqb (get_or past.joins t 0) 0)
+over-at {σ} {e} {t} {past} z (small, q) =
+    rw q (latest_over σ e past.joins z.done.joined (omega (arith, z.done.joins_long)))
 
 -- ---- before the first start or join
 
 -- Before event 1 nothing is done.
 pub done-start : (σ : Trace)
-    → Done σ 1 (replicate locks 0) (replicate locks 1) (replicate variables 0) (replicate tasks 0)
-    (replicate tasks 0)
+    → Done σ 1 (record {
+      locks = record { holders = replicate locks 0; depths = replicate locks 1 };
+      writes = replicate variables 0;
+      starts = replicate tasks 0;
+      joins = replicate tasks 0;
+    })
 done-start σ = record {
   holder = holders-start;
   writes_long = length-replicate {A = ℕ} variables 0;
@@ -87,39 +83,40 @@ done-start σ = record {
 }
 
 -- The check begins without a start or a join.
-pub plain-start : {σ : Trace} {holders depths writes starts joins : List ℕ}
-    → Done σ 1 holders depths writes starts joins → Plain σ 1 holders depths writes starts joins
+pub plain-start : {σ : Trace} {past : Past}
+    → Done σ 1 past → Plain σ 1 past
 plain-start z = record {
   faultless = λ f a b. absurd (omega arith);
   unjoined = λ f a b. absurd (omega arith);
   done = z;
 }
 
-module _ {σ : Trace} {e : ℕ} {holders depths writes starts joins : List ℕ}
-    (z : Plain σ e holders depths writes starts joins) where
-  -- While no task was joined, none is over: the refusal is the event's.
-  pub plain-fault : {r : ℕ} → fault σ e ≡ cond (eqb r 0) (cond (is_over σ e) 16 0) r → r ≡ fault σ e
-  plain-fault {r} q =
-      let on : is_over σ e ≡ false = is_false (is_over σ e) (not_T (is_over σ e) (λ t.
+module _ {σ : Trace} {e : ℕ} {past : Past}
+    (z : Plain σ e past) where
+  -- While no task was joined, none is over.
+  pub plain-over : is_over σ e ≡ false
+  plain-over = is_false (is_over σ e) (not_T (is_over σ e) (λ t.
       let (f, h, k, j) = (is_over_iff σ e).0 t in
-      rw (z.unjoined f h k) at ((joins_iff σ (task σ e) f).0 j).0)) in
-      sym (q ∙ rw on (⊎_elim (λ (n : r ≡ 0). rw n) (λ d. rw (ne_eqb r 0 d)) (equal? r 0)))
+      rw (z.unjoined f h k) at ((joins_iff σ (task σ e) f).0 j).0))
 
   -- An event that is neither and has no fault leaves it so.
-  pub plain-next : {hs ds ws ss js : List ℕ} → fault σ e ≡ 0 → (is_start σ e || is_join σ e) ≡ false
-      → Done σ (e + 1) hs ds ws ss js → Plain σ (e + 1) hs ds ws ss js
-  plain-next none n done = record {
+  pub plain-next : {next : Past} → (is_start σ e || is_join σ e) ≡ false → Passes σ e next
+      → Plain σ (e + 1) next
+  plain-next n (fault_is, done) = record {
     faultless = λ f a b. ⊎_elim (λ (s : f ≡ e). rw s none) (λ d. z.faultless f a (omega arith)) (equal? f e);
     unjoined = λ f a b. ⊎_elim (λ (s : f ≡ e). rw s join) (λ d. z.unjoined f a (omega arith)) (equal? f e);
     done = done;
   }
     where
+      none : fault σ e ≡ 0
+      none = fault_is ∙ rw plain-over refl
+
       join : is_join σ e ≡ false
       join = is_false (is_join σ e) (not_T (is_join σ e) (λ j.
           rw n at (or_r (is_start σ e) (is_join σ e) j)))
 
   -- At an event that is asked no further the tables may be others of the same.
-  pub plain-again : {hs ds ws ss js : List ℕ} → Done σ e hs ds ws ss js → Plain σ e hs ds ws ss js
+  pub plain-again : {same : Past} → Done σ e same → Plain σ e same
   plain-again done = record {
     faultless = z.faultless;
     unjoined = z.unjoined;
@@ -127,9 +124,9 @@ module _ {σ : Trace} {e : ℕ} {holders depths writes starts joins : List ℕ}
   }
 
   -- With the latest events it goes on with both.
-  pub plain-asked : {latest : List ℕ} → length latest ≡ tasks → LatestEvents (λ f. true) (task σ) e latest
-      → Asked σ e holders depths writes latest starts joins
-  plain-asked long events = record {
+  pub plain-asking : {latest : List ℕ} → length latest ≡ tasks → LatestEvents (λ f. true) (task σ) e latest
+      → Asking σ e past latest
+  plain-asking long events = record {
     faultless = z.faultless;
     done = z.done;
     latest_long = long;

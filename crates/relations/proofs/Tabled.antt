@@ -11,7 +11,7 @@ use lib.ListN.{length, get_or, replicate, length-replicate}
 use Rattle.model.specs.Trace.{Trace, tasks, locks, variables, task, object, is_write, is_acquire}
 use Rattle.model.specs.Recording.{decode_all}
 use Rattle.model.specs.Relations.{predecessor, held}
-use Rattle.model.specs.declared.Relations.{Relations}
+use Rattle.model.specs.Answers.{Relations}
 use Rattle.laws.specs.Answered.{event_relations}
 use Rattle.laws.proofs.Trace.{decode_all-length}
 use Rattle.laws.specs.Sizes.{table_length}

@@ -7,7 +7,7 @@ use mathlib.Core.List.{List}
 use native.Mathlib.Omega.{arith}
 use lib.Dec.{eqb}
 use borrow.Author.Tests.{eq-eqb, ne_eqb}
-use Rattle.model.specs.declared.Checked.{Checked}
+use Rattle.model.specs.Answers.{Checked}
 use Rattle.model.specs.Bytes.{numbers, is_whole}
 use Rattle.model.specs.Trace.{Trace}
 use Rattle.model.specs.Recording.{trace}

@@ -6,7 +6,7 @@ use mathlib.Core.Bool.{not}
 use native.Mathlib.Numerals.{add-one}
 use borrow.Author.Rules.{rules}
 use lib.ListN.{length}
-use Rattle.model.specs.declared.Outcome.{Outcome}
+use Rattle.model.specs.Answers.{Outcome}
 use Rattle.model.specs.Lists.{all, from}
 use Rattle.model.specs.Recording.{trace}
 use Rattle.model.specs.EventSet.{set_length, lent_bit}

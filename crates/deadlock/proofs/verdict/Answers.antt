@@ -2,7 +2,7 @@
 -- Assumes nothing.
 use mathlib.Core.Path.{◌≡◌, refl, sym, ap, ◌∙◌}
 use borrow.Author.Rules.{rules}
-use Rattle.model.specs.declared.Outcome.{Outcome}
+use Rattle.model.specs.Answers.{Outcome}
 use Rattle.model.specs.Calls.Check.{check}
 use Rattle.laws.specs.Answered.{refused_verdict}
 use Rattle.laws.proofs.Questions.{check_bytes, part-trace, part_small, part_accepted}

@@ -2,7 +2,7 @@
 use Prim.Native.Nat.{◌+◌, ◌*◌}
 use mathlib.Core.Path.{ap, ◌∙◌}
 use lib.ListN.{length}
-use Rattle.model.specs.declared.Listed.{Listed}
+use Rattle.model.specs.Answers.{Listed}
 use Rattle.hidzvoma.proofs.Laws.{list_small, carries_bounds, carries_refused}
 use Rattle.hidzvoma.proofs.Laws.{carries_accepted, list_carries, list_entry_lem}
 use Rattle.hidzvoma.proofs.hidzvoma_list.Goals as goal

@@ -2,7 +2,7 @@
 use Prim.Native.Nat.{◌+◌, ◌*◌}
 use mathlib.Core.Path.{◌≡◌, sym, ap, ◌∙◌}
 use mathlib.Core.Bool.{Bool, cond}
-use Rattle.model.specs.declared.Verdict.{Verdict}
+use Rattle.model.specs.Answers.{Verdict}
 use Rattle.model.specs.Calls.Entries.{verdict_entry}
 use Rattle.hidzvoma.proofs.Laws.{verdict_small, carries_bounds, carries_refused}
 use Rattle.hidzvoma.proofs.Laws.{carries_accepted, verdict_carries, verdict_entry_lem}

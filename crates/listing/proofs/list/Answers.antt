@@ -3,7 +3,7 @@
 use Prim.Native.Nat.{◌≤◌}
 use mathlib.Core.Path.{◌≡◌, sym, ap, ◌∙◌}
 use borrow.Author.Rules.{rules}
-use Rattle.model.specs.declared.Outcome.{Outcome}
+use Rattle.model.specs.Answers.{Outcome}
 use Rattle.model.specs.Recording.{trace}
 use Rattle.model.specs.Listing.{deadlocks}
 use Rattle.model.specs.Calls.Questions.{outcome, permits_size}

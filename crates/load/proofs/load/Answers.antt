@@ -5,7 +5,7 @@ use native.Mathlib.Omega.{arith}
 use borrow.Author.Rules.{rules}
 use borrow.Author.Tests.{lt-ltb, le-ltb}
 use lib.ListN.{length}
-use Rattle.model.specs.declared.Outcome.{Outcome}
+use Rattle.model.specs.Answers.{Outcome}
 use Rattle.model.specs.Trace.{locks}
 use Rattle.model.specs.Recording.{trace}
 use Rattle.model.specs.Calls.Check.{check}

@@ -2,7 +2,9 @@
 use Rattle.model.specs.Recording.{decode_all}
 use Rattle.recording.proofs.Tasks.{Starting, start_own, start-again, start_late, start_busy, start_new}
 use Rattle.recording.proofs.start.Goals as goal
-use Rattle.recording.proofs.start.Goals.{Start}
+use Rattle.recording.proofs.start.Goals.{Start, then-u-t-via-then-u-t, then-u-t-via-else-u-t+then-starts-u-ne0}
+use Rattle.recording.proofs.start.Goals.{then-u-t-via-else-u-t+else-starts-u-ne0+then-joins-u-ne0}
+use Rattle.recording.proofs.start.Goals.{then-u-t-via-else-u-t+else-starts-u-ne0+else-joins-u-ne0+then-latest-u-ne0}
 
 -- The start with its task and the one that it starts.
 unpacked : (c : goal.Start)
@@ -17,23 +19,19 @@ unpacked c = record {
   joined = (c.requires.9, c.requires.10);
 }
 
-pub returns-then-u-t : goal.returns-then-u-t
-returns-then-u-t c =
-    start_own (unpacked (goal.at.returns-then-u-t c).Start) c.if-u-t.true
-
-pub returns-then-starts-u-ne0 : goal.returns-then-starts-u-ne0
-returns-then-starts-u-ne0 c =
-    start-again (unpacked (goal.at.returns-then-starts-u-ne0 c).Start) c.if-starts-u-ne0.true
-
-pub returns-then-joins-u-ne0 : goal.returns-then-joins-u-ne0
-returns-then-joins-u-ne0 c =
-    start_late (unpacked (goal.at.returns-then-joins-u-ne0 c).Start) c.if-joins-u-ne0.true
-
-pub returns-then-latest-u-ne0 : goal.returns-then-latest-u-ne0
-returns-then-latest-u-ne0 c =
-    start_busy (unpacked (goal.at.returns-then-latest-u-ne0 c).Start) c.if-latest-u-ne0.true
+pub returns-then-u-t-clause-fault : goal.returns-then-u-t-clause-fault
+returns-then-u-t-clause-fault c =
+    let s = unpacked (goal.at.returns-then-u-t-clause-fault c).Start in
+    elim c.then-u-t.branch [
+      | then-u-t-via-then-u-t w ↦ start_own s w.if-u-t.true
+      | then-u-t-via-else-u-t+then-starts-u-ne0 w ↦ start-again s w.if-starts-u-ne0.true
+      | then-u-t-via-else-u-t+else-starts-u-ne0+then-joins-u-ne0 w ↦ start_late s w.if-joins-u-ne0.true
+      | then-u-t-via-else-u-t+else-starts-u-ne0+else-joins-u-ne0+then-latest-u-ne0 w ↦
+          start_busy s w.if-latest-u-ne0.true
+    ]
 
 pub returns : goal.returns
 returns c =
-    start_new (unpacked (goal.at.returns c).Start) c.if-u-t.false
-    c.if-starts-u-ne0.false c.if-joins-u-ne0.false c.if-latest-u-ne0.false
+    let started = start_new (unpacked (goal.at.returns c).Start) c.if-u-t.false
+    c.if-starts-u-ne0.false c.if-joins-u-ne0.false c.if-latest-u-ne0.false in
+    record { fault = started.0; started = started.1 }

@@ -3,7 +3,7 @@
 use mathlib.Core.Path.{◌≡◌, sym, ap, ◌∙◌}
 use native.Mathlib.Omega.{arith}
 use borrow.Author.Rules.{rules}
-use Rattle.model.specs.declared.Outcome.{Outcome}
+use Rattle.model.specs.Answers.{Outcome}
 use Rattle.model.specs.Calls.Check.{check}
 use Rattle.laws.proofs.Questions.{check_bytes, part_length, part_accepted}
 use Rattle.timed.proofs.timed_tables.Goals as goal

@@ -2,7 +2,7 @@
 -- Assumes nothing.
 use mathlib.Core.Path.{◌≡◌, sym, ap, ◌∙◌}
 use borrow.Author.Rules.{rules}
-use Rattle.model.specs.declared.Outcome.{Outcome}
+use Rattle.model.specs.Answers.{Outcome}
 use Rattle.model.specs.Calls.Check.{check}
 use Rattle.laws.proofs.Questions.{check_bytes, part_small, part_accepted}
 use Rattle.timed.proofs.timed_verdicts.Goals as goal

@@ -17,14 +17,14 @@ use Rattle.laws.specs.Walked.{Kept, Holders}
 use Rattle.laws.proofs.Kept.{kept-fits, kept-holds, kept_free, kept_first, kept_own, kept_again, kept_freed}
 use Rattle.laws.proofs.Kept.{kept_lowered, holders_holder, holders-depth}
 
--- What question 5 answers to acquire e, and the tables that it leaves.
-abbrev Entered : Trace → ℕ → ℕ → List ℕ → List ℕ → Type 0
-Entered σ e r holders depths = (r ≡ cond (is_free σ e) 0 5) × (r ≡ 0 → Holders σ (e + 1) holders depths)
+-- Question 5 passes acquire e, and the tables that it leaves.
+abbrev Entered : Trace → ℕ → List ℕ → List ℕ → Type 0
+Entered σ e holders depths = (◌≡◌ {A = ℕ} 0 (cond (is_free σ e) 0 5)) × Holders σ (e + 1) holders depths
 
 -- The same of question 6 and release e.
-abbrev Left : Trace → ℕ → ℕ → List ℕ → List ℕ → Type 0
-Left σ e r holders depths =
-    (r ≡ cond (holds σ e (task σ e) (object σ e)) 0 6) × (r ≡ 0 → Holders σ (e + 1) holders depths)
+abbrev Left : Trace → ℕ → List ℕ → List ℕ → Type 0
+Left σ e holders depths =
+    (◌≡◌ {A = ℕ} 0 (cond (holds σ e (task σ e) (object σ e)) 0 6)) × Holders σ (e + 1) holders depths
 
 -- An acquire or release with its task and its lock as they were unpacked.
 pub record Locked (σ : Trace) (e t o : ℕ) (holders depths : List ℕ) : Type 0 where
@@ -71,27 +71,24 @@ module _ {σ : Trace} {e t o : ℕ} {holders depths : List ℕ} (u : Locked σ e
   free_is = rw (u.task_is.1, add-one (task σ e)) (kept_free at_lock)
 
   -- An acquire of a lock that another task holds.
-  pub enter_refused : get_or holders o 0 ≢ 0 → get_or holders o 0 ≢ t + 1 → Entered σ e 5 holders depths
-  enter_refused n m = (
-    rw (free_is, ne_eqb (get_or holders o 0) 0 n, ne_eqb (get_or holders o 0) (t + 1) m),
-    λ q. absurd (omega arith),
-  )
+  pub enter_refused : get_or holders o 0 ≢ 0 → get_or holders o 0 ≢ t + 1 → ◌≡◌ {A = ℕ} 5 (cond (is_free σ e) 0 5)
+  enter_refused n m = rw (free_is, ne_eqb (get_or holders o 0) 0 n, ne_eqb (get_or holders o 0) (t + 1) m)
 
   module _ (a : T (enters σ e)) where
     -- An acquire of a lock that no task holds.
-    pub enter_first : get_or holders o 0 ≡ 0 → Entered σ e 0 (set holders o (t + 1)) depths
+    pub enter_first : get_or holders o 0 ≡ 0 → Entered σ e (set holders o (t + 1)) depths
     enter_first n =
         let first = (kept_first small a (rw n at at_lock)).1 in (
           rw (free_is, eq-eqb (get_or holders o 0) 0 n),
-          λ _. rw (add-one t, u.task_is.1) (with_holder (suc (task σ e)) first),
+          rw (add-one t, u.task_is.1) (with_holder (suc (task σ e)) first),
         )
 
     -- An acquire of a lock that its task holds.
-    pub enter-again : get_or holders o 0 ≡ t + 1 → Entered σ e 0 holders
+    pub enter-again : get_or holders o 0 ≡ t + 1 → Entered σ e holders
         (set depths o (get_or depths o 0 + 1))
     enter-again n = (
       rw (free_is, ne_eqb (get_or holders o 0) 0 (omega arith), eq-eqb (get_or holders o 0) (t + 1) n),
-      λ _. rw (add-one (get_or depths o 0))
+      rw (add-one (get_or depths o 0))
           (with-depth (suc (get_or depths o 0)) n (kept_again small (own_lock n) a)),
     )
 
@@ -101,12 +98,12 @@ module _ {σ : Trace} {e t o : ℕ} {holders depths : List ℕ} (u : Locked σ e
   own = rw (u.task_is.1, add-one (task σ e)) (kept-holds at_lock (task σ e) small)
 
   -- A release by a task that does not hold the lock.
-  pub leave_refused : get_or holders o 0 ≢ t + 1 → Left σ e 6 holders depths
-  leave_refused n = (rw (own, ne_eqb (get_or holders o 0) (t + 1) n), λ q. absurd (omega arith))
+  pub leave_refused : get_or holders o 0 ≢ t + 1 → ◌≡◌ {A = ℕ} 6 (cond (holds σ e (task σ e) (object σ e)) 0 6)
+  leave_refused n = rw (own, ne_eqb (get_or holders o 0) (t + 1) n)
 
   module _ (n : get_or holders o 0 ≡ t + 1) where
-    passed : (h d : List ℕ) → Holders σ (e + 1) h d → Left σ e 0 h d
-    passed h d z = (rw (own, eq-eqb (get_or holders o 0) (t + 1) n), λ _. z)
+    passed : (h d : List ℕ) → Holders σ (e + 1) h d → Left σ e h d
+    passed h d z = (rw (own, eq-eqb (get_or holders o 0) (t + 1) n), z)
 
     -- The depth of a lock that the event's task holds is above 0.
     pub leave_deep : 0 < get_or depths o 0
@@ -114,9 +111,9 @@ module _ {σ : Trace} {e t o : ℕ} {holders depths : List ℕ} (u : Locked σ e
 
     module _ (a : T (leaves σ e)) where
       -- A release to depth 0.
-      pub leave_freed : get_or depths o 0 ≡ 1 → Left σ e 0 (set holders o 0) depths
+      pub leave_freed : get_or depths o 0 ≡ 1 → Left σ e (set holders o 0) depths
       leave_freed m = passed _ _ (with_holder 0 (kept_freed small (own_lock n) a m))
 
       -- A release to a depth above 0.
-      pub leave-kept : get_or depths o 0 ≢ 1 → Left σ e 0 holders (set depths o (get_or depths o 0 - 1))
+      pub leave-kept : get_or depths o 0 ≢ 1 → Left σ e holders (set depths o (get_or depths o 0 - 1))
       leave-kept m = passed _ _ (with-depth (get_or depths o 0 - 1) n (kept_lowered small (own_lock n) a m))
