@@ -47,7 +47,7 @@ pub fn is_acquire(records: &[u8], mask: u64, e: usize) -> bool
         × ((check_events (decode_all records.now)).refusal ≡ 0) × (mask ≡ held (decode_all records.now) e) }
     ensures { result ≡ is_acquire (decode_all records.now) e }
 {
-    if recording::operation(records, e) != 2 {
+    if recording::opcode(records, e) != 2 {
         return false;
     }
     let l = recording::object(records, e) as u64;

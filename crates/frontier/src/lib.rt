@@ -97,7 +97,7 @@ fn visit(
     ensures latest { latest.new
         ≡ latest_with (decode_all records.now) latest.old f }
 {
-    if recording::operation(records, f as usize) != 2 {
+    if recording::opcode(records, f as usize) != 2 {
         want_event(records, want, writers[f as usize]);
         return;
     }

@@ -16,7 +16,7 @@ fn depth_after(records: &[u8], e: usize, lock: u64, depth: u16) -> u16
         × LockDepth (decode_all records.now) e lock depth × (lock < locks) }
     ensures { LockDepth (decode_all records.now) (e + 1) lock result }
 {
-    let op = recording::operation(records, e);
+    let op = recording::opcode(records, e);
     if op < 2 {
         return depth;
     }

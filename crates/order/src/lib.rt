@@ -48,7 +48,7 @@ fn joined_of(records: &[u8], e: usize, predecessors: &[u16], latest: &[u16]) -> 
         × LatestEvents (λ f. true) (task (decode_all records.now)) e latest.now }
     ensures { result ≡ joined (decode_all records.now) e }
 {
-    if recording::operation(records, e) != 3 {
+    if recording::opcode(records, e) != 3 {
         return 0;
     }
     let o = recording::object(records, e) as usize;
@@ -129,7 +129,7 @@ fn note_start(records: &[u8], e: usize, k: u8, predecessors: &mut [u16])
     if k != 4 {
         return;
     }
-    if recording::operation(records, e) != 2 {
+    if recording::opcode(records, e) != 2 {
         return;
     }
     let o = recording::object(records, e) as usize;

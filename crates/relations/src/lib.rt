@@ -33,7 +33,7 @@ fn note_record(
         × Filled (task (decode_all records.now)) (e + 1) tasks.new
         × Filled (object (decode_all records.now)) (e + 1) objects.new }
 {
-    let op = recording::operation(records, e);
+    let op = recording::opcode(records, e);
     let t = recording::task(records, e);
     let o = recording::object(records, e);
     operations[e] = op;

@@ -113,7 +113,7 @@ fn follows(
     if !is_next(records, predecessors, last, e) {
         return false;
     }
-    let op = recording::operation(records, at);
+    let op = recording::opcode(records, at);
     if op == 0 {
         return writes[recording::object(records, at) as usize] == writers[at];
     }
@@ -148,7 +148,7 @@ fn note(
 {
     let at = e as usize;
     last[recording::task(records, at) as usize] = e;
-    let op = recording::operation(records, at);
+    let op = recording::opcode(records, at);
     let object = recording::object(records, at) as usize;
     if op == 1 {
         writes[object] = e;

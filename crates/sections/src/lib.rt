@@ -31,7 +31,7 @@ pub fn kind_of(records: &[u8], e: usize, mask: u64, depths: &mut [u16]) -> u8
         × (result ≡ kind (decode_all records.now) e)
         × KeptDepths (decode_all records.now) (e + 1) depths.new }
 {
-    let op = recording::operation(records, e);
+    let op = recording::opcode(records, e);
     if op < 2 {
         return op;
     }

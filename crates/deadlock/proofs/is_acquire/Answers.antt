@@ -10,20 +10,20 @@ use Rattle.deadlock.proofs.is_acquire.Goals.{Start}
 sound : (c : goal.Start) → WellFormed (decode_all c.args.records.now)
 sound c = events_sound c.args.records.now c.requires.2
 
-pub returns-then-operation-ne2 : goal.returns-then-operation-ne2
-returns-then-operation-ne2 c =
-    acquires-not (decode_all c.args.records.now) (sound (goal.at.returns-then-operation-ne2 c).Start) c.args.e
-    c.operation.ensures.1
-    c.if-operation-ne2.true
+pub returns-then-opcode-ne2 : goal.returns-then-opcode-ne2
+returns-then-opcode-ne2 c =
+    acquires-not (decode_all c.args.records.now) (sound (goal.at.returns-then-opcode-ne2 c).Start) c.args.e
+    c.opcode.ensures.1
+    c.if-opcode-ne2.true
 
 pub returns-then-l-ge64 : goal.returns-then-l-ge64
 returns-then-l-ge64 c =
     acquires-task (decode_all c.args.records.now) (sound (goal.at.returns-then-l-ge64 c).Start) c.args.e
-    c.operation.ensures.1 c.object-l.ensures.1 c.if-l-ge64.true
+    c.opcode.ensures.1 c.object-l.ensures.1 c.if-l-ge64.true
 
 pub returns : goal.returns
 returns c =
     rw c.in_mask.ensures
     (acquires_own (decode_all c.args.records.now) (sound (goal.at.returns c).Start) c.args.e
-    c.operation.ensures.1 c.object-l.ensures.1 c.if-operation-ne2.false
+    c.opcode.ensures.1 c.object-l.ensures.1 c.if-opcode-ne2.false
     c.if-l-ge64.false c.requires.3)

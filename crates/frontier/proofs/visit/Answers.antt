@@ -8,15 +8,15 @@ use Rattle.laws.proofs.WellFormed.{acquire_lt}
 use Rattle.laws.proofs.Questions.{events_sound}
 use Rattle.frontier.proofs.Leaves.{other_visited, uncounted_visited, acquire_visited, awaited_in}
 use Rattle.frontier.proofs.visit.Goals as goal
-use Rattle.frontier.proofs.visit.Goals.{After-operation}
+use Rattle.frontier.proofs.visit.Goals.{After-opcode}
 
 -- The event's operation and mark.
-unpacked : (c : goal.After-operation)
-    → WithMark (decode_all c.args.records.now) c.args.f c.operation.result
+unpacked : (c : goal.After-opcode)
+    → WithMark (decode_all c.args.records.now) c.args.f c.opcode.result
     (get_or c.args.matches.now c.args.f 0)
 unpacked c =
     let (h, k) = record-event c.args.records.now c.args.f (c.requires.0, c.requires.1) in
-    record { event = h; op_is = c.operation.ensures.1; mark_is = c.requires.6.matching_at c.args.f h k }
+    record { event = h; op_is = c.opcode.ensures.1; mark_is = c.requires.6.matching_at c.args.f h k }
 
 pub want_event-requires : goal.want_event-requires
 want_event-requires c =
@@ -26,26 +26,26 @@ want_event-requires c =
       c.requires.4,
     )
 
-pub returns-then-operation-ne2 : goal.returns-then-operation-ne2
-returns-then-operation-ne2 c =
+pub returns-then-opcode-ne2 : goal.returns-then-opcode-ne2
+returns-then-opcode-ne2 c =
     let (h, k) = record-event c.args.records.now c.args.f (c.requires.0, c.requires.1) in
-    let visited = other_visited (unpacked (goal.at.returns-then-operation-ne2 c).After-operation) _
-    c.args.latest.now c.if-operation-ne2.true (c.requires.6.writer_at c.args.f h k)
+    let visited = other_visited (unpacked (goal.at.returns-then-opcode-ne2 c).After-opcode) _
+    c.args.latest.now c.if-opcode-ne2.true (c.requires.6.writer_at c.args.f h k)
     c.want_event.ensures in
     record { wanted = visited.0; latest = visited.1 }
 
 pub returns-then-matches-f : goal.returns-then-matches-f
 returns-then-matches-f c =
-    let visited = uncounted_visited (unpacked (goal.at.returns-then-matches-f c).After-operation)
-    c.args.want.now c.args.latest.now c.if-operation-ne2.false
+    let visited = uncounted_visited (unpacked (goal.at.returns-then-matches-f c).After-opcode)
+    c.args.want.now c.args.latest.now c.if-opcode-ne2.false
     c.if-matches-f.true in
     record { wanted = visited.0; latest = visited.1 }
 
 pub visit_acquire-requires : goal.visit_acquire-requires
 visit_acquire-requires c =
     let b = c.args.records.now in
-    let outer = marked_outer (unpacked (goal.at.visit_acquire-requires c).After-operation)
-    c.if-operation-ne2.false c.if-matches-f.false in (
+    let outer = marked_outer (unpacked (goal.at.visit_acquire-requires c).After-opcode)
+    c.if-opcode-ne2.false c.if-matches-f.false in (
       c.requires.0,
       c.requires.1,
       omega (arith, c.requires.1, c.requires.2, c.requires.6.matching_long),
@@ -57,7 +57,7 @@ visit_acquire-requires c =
 
 pub returns : goal.returns
 returns c =
-    let visited = acquire_visited (unpacked (goal.at.returns c).After-operation) c.args.want.now
-    c.args.latest.now c.if-operation-ne2.false c.if-matches-f.false
+    let visited = acquire_visited (unpacked (goal.at.returns c).After-opcode) c.args.want.now
+    c.args.latest.now c.if-opcode-ne2.false c.if-matches-f.false
     (c.visit_acquire.ensures.wanted, c.visit_acquire.ensures.latest) in
     record { wanted = visited.0; latest = visited.1 }

@@ -9,12 +9,12 @@ use Rattle.order.proofs.joined_of.Goals.{After-object-o}
 -- and the event with its operation and object.
 unpacked : (c : goal.After-object-o)
     → WithObject (decode_all c.args.records.now) c.args.e
-    c.operation.result c.object-o.result
-unpacked c = record { op_is = c.operation.ensures; object_is = c.object-o.ensures }
+    c.opcode.result c.object-o.result
+unpacked c = record { op_is = c.opcode.ensures; object_is = c.object-o.ensures }
 
-pub returns-then-operation-ne3 : goal.returns-then-operation-ne3
-returns-then-operation-ne3 c =
-    joined_other _ _ c.operation.ensures.1 c.if-operation-ne3.true
+pub returns-then-opcode-ne3 : goal.returns-then-opcode-ne3
+returns-then-opcode-ne3 c =
+    joined_other _ _ c.opcode.ensures.1 c.if-opcode-ne3.true
 
 pub returns-then-o-lt64 : goal.returns-then-o-lt64
 returns-then-o-lt64 c =
@@ -24,10 +24,10 @@ pub last_of-requires : goal.last_of-requires
 last_of-requires c =
     let known = names-task (unpacked (goal.at.last_of-requires c).After-object-o)
     (events_sound c.args.records.now c.requires.2)
-    (omega (arith, c.if-operation-ne3.false)) in
+    (omega (arith, c.if-opcode-ne3.false)) in
     (omega (arith, c.if-o-lt64.false), c.requires.3, c.requires.4, c.requires.5, c.requires.6)
 
 pub returns : goal.returns
 returns c =
-    joined-task (unpacked (goal.at.returns c).After-object-o) c.if-operation-ne3.false c.if-o-lt64.false
+    joined-task (unpacked (goal.at.returns c).After-object-o) c.if-opcode-ne3.false c.if-o-lt64.false
     c.last_of.ensures

@@ -13,7 +13,7 @@ use Rattle.laws.proofs.WellFormed.{acquire_lt}
 use Rattle.schedule.proofs.Asking.{asked-none, asked_later, asked_read, asked_acquire}
 use Rattle.schedule.proofs.Asking.{asked_uncounted, asked_other, awaited_in}
 use Rattle.schedule.proofs.follows.Goals as goal
-use Rattle.schedule.proofs.follows.Goals.{After-operation-op, Else-records-at}
+use Rattle.schedule.proofs.follows.Goals.{After-opcode-op, Else-records-at}
 
 -- The number is that of an event: its record is there,
 recorded : (c : goal.Else-records-at) → let a = c.args in
@@ -26,11 +26,11 @@ inside : (c : goal.Else-records-at) → let a = c.args in
 inside c = record-event _ _ (recorded c)
 
 -- The event comes next in its task; its operation and mark.
-unpacked : (c : goal.After-operation-op)
+unpacked : (c : goal.After-opcode-op)
     → Asked (decode_all c.args.records.now) c.args.last.now c.args.e
-    c.operation-op.result (get_or c.args.matches.now c.args.e 0)
+    c.opcode-op.result (get_or c.args.matches.now c.args.e 0)
 unpacked c =
-    let (h, k) = inside (goal.at.After-operation-op c).Else-records-at in
+    let (h, k) = inside (goal.at.After-opcode-op c).Else-records-at in
     let next = c.is_next in
     record {
       sound = events_sound c.args.records.now c.requires.1;
@@ -38,7 +38,7 @@ unpacked c =
       next = sym next.ensures ∙ c.if-not-is_next.false;
       mark = record {
         event = h;
-        op_is = c.operation-op.ensures.1;
+        op_is = c.opcode-op.ensures.1;
         mark_is = c.requires.2.reading.matching_at c.args.e h k;
       };
     }
@@ -71,14 +71,14 @@ returns-then-not-is_next c =
 
 pub returns-then-op-eq0 : goal.returns-then-op-eq0
 returns-then-op-eq0 c =
-    let (h, k) = (unpacked (goal.at.returns-then-op-eq0 c).After-operation-op).inside in
-    asked_read (unpacked (goal.at.returns-then-op-eq0 c).After-operation-op) _ _ c.if-op-eq0.true _ _
+    let (h, k) = (unpacked (goal.at.returns-then-op-eq0 c).After-opcode-op).inside in
+    asked_read (unpacked (goal.at.returns-then-op-eq0 c).After-opcode-op) _ _ c.if-op-eq0.true _ _
     c.object.ensures
     (c.requires.2.reading.writer_at _ h k)
 
 pub is_ready-requires : goal.is_ready-requires
 is_ready-requires c =
-    let (h, k) = (unpacked (goal.at.is_ready-requires c).After-operation-op).inside in (
+    let (h, k) = (unpacked (goal.at.is_ready-requires c).After-opcode-op).inside in (
       awaited_in c.args.records.now c.args.e (c.requires.2.reading.writer_at c.args.e h k)
           (recorded (goal.at.is_ready-requires c).Else-records-at).1,
       c.requires.3.last_long,
@@ -86,19 +86,19 @@ is_ready-requires c =
 
 pub returns-then-op-ne2 : goal.returns-then-op-ne2
 returns-then-op-ne2 c =
-    let (h, k) = (unpacked (goal.at.returns-then-op-ne2 c).After-operation-op).inside in
-    asked_other (unpacked (goal.at.returns-then-op-ne2 c).After-operation-op) _ _ c.if-op-eq0.false
+    let (h, k) = (unpacked (goal.at.returns-then-op-ne2 c).After-opcode-op).inside in
+    asked_other (unpacked (goal.at.returns-then-op-ne2 c).After-opcode-op) _ _ c.if-op-eq0.false
     c.if-op-ne2.true
     (c.requires.2.reading.writer_at _ h k) c.is_ready.ensures
 
 pub returns-then-matches-at : goal.returns-then-matches-at
 returns-then-matches-at c =
-    let u = unpacked (goal.at.returns-then-matches-at c).After-operation-op in
+    let u = unpacked (goal.at.returns-then-matches-at c).After-opcode-op in
     asked_uncounted u _ _ c.if-op-ne2.false c.if-matches-at.true
 
 pub is_unlocked-requires : goal.is_unlocked-requires
 is_unlocked-requires c =
-    let u = unpacked (goal.at.is_unlocked-requires c).After-operation-op in
+    let u = unpacked (goal.at.is_unlocked-requires c).After-opcode-op in
     let outer = marked_outer u.mark c.if-op-ne2.false c.if-matches-at.false in
     let lock = acquire_lt _ u.sound c.args.e (rw outer tt) in (
       u.inside.0,
@@ -114,6 +114,6 @@ is_unlocked-requires c =
 
 pub returns : goal.returns
 returns c =
-    asked_acquire (unpacked (goal.at.returns c).After-operation-op) _ _ c.if-op-ne2.false
+    asked_acquire (unpacked (goal.at.returns c).After-opcode-op) _ _ c.if-op-ne2.false
     c.if-matches-at.false _
     c.is_unlocked.ensures

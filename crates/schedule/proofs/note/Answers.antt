@@ -12,11 +12,11 @@ use Rattle.schedule.proofs.note.Goals.{After-object-object}
 
 -- The event as it was unpacked, and its mark.
 unpacked : (c : goal.After-object-object)
-    → Noted (decode_all c.args.records.now) c.args.e c.operation-op.result
+    → Noted (decode_all c.args.records.now) c.args.e c.opcode-op.result
     c.task.result c.object-object.result
     (get_or c.args.matches.now c.args.e 0)
 unpacked c =
-    let op = c.operation-op in
+    let op = c.opcode-op in
     record {
       sound = events_sound c.args.records.now c.requires.4;
       event = record {
