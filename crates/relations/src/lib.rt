@@ -10,10 +10,15 @@ ghost use Rattle.model.specs.Relations.{held};
 ghost use Rattle.model.specs.Calls.Check.{check_events};
 ghost use Rattle.model.specs.Calls.Relations.{relations};
 ghost use Rattle.laws.specs.Sizes.{records_length, table_length, order_length};
-ghost use Rattle.laws.specs.Answered.{refused_relations, event_relations};
+ghost use Rattle.model.specs.Answers.{relations_of};
+ghost use Rattle.recording.specs.Asked.{code};
+ghost use Rattle.laws.specs.Answered.{event_relations};
 ghost use Rattle.laws.specs.EventKinds.{kind};
 ghost use Rattle.laws.specs.Walked.{Filled, LatestEvents, KeptDepths, Locksets, Matches};
 ghost use Rattle.relations.specs.Tables.{operation, Tables, Noted};
+
+use model::{Question, Refusal, Related};
+use recording::Op;
 
 // Notes what event e's own record says.
 fn note_record(
@@ -161,36 +166,21 @@ pub fn fill_tables(
     }
 }
 
-// A refused answer: its number and event, every other field zero.
-fn refused(refusal: u64, event: u64) -> model::Relations
-    ensures { result ≡ refused_relations refusal event }
-{
-    model::Relations {
-        refusal,
-        event,
-        held: 0,
-        locks: 0,
-        matching: 0,
-        writer: 0,
-        predecessor: 0,
-    }
-}
-
 // The writer of an event with this operation, off what it awaits: 0 unless it is a read.
-fn writer_of(operation: u8, awaited: u16) -> u64
-    ensures { result ≡ cond (eqb operation 0) awaited 0 }
+fn writer_of(operation: Op, awaited: u16) -> u64
+    ensures { result ≡ cond (eqb (code operation) 0) awaited 0 }
 {
-    if operation == 0 {
-        return awaited as u64;
+    match operation {
+        Op::Read => awaited as u64,
+        _ => 0,
     }
-    0
 }
 
 // The relations of event e of records whose events are accepted, read off the tables.
-fn relations_of(records: &[u8], e: usize) -> model::Relations
+fn related(records: &[u8], e: usize) -> Related
     requires { (length records.now ≤ records_length) × ((check_events (decode_all records.now)).refusal ≡ 0)
         × (1 ≤ e) × (e ≤ length records.now / 2) }
-    ensures { result ≡ event_relations (decode_all records.now) e }
+    ensures { relations_of (Ok result) ≡ event_relations (decode_all records.now) e }
 {
     let mut operations = [0u8; 4096];
     let mut tasks = [0u8; 4096];
@@ -210,31 +200,23 @@ fn relations_of(records: &[u8], e: usize) -> model::Relations
         &mut matches,
     );
     let mask = holding[e];
-    model::Relations {
-        refusal: 0,
-        event: 0,
+    Related {
         held: mask,
         locks: u64::count_ones(mask) as u64,
         matching: sections::unmarked(matches[e], e),
-        writer: writer_of(operations[e], writers[e]),
+        writer: writer_of(recording::operation(records, e), writers[e]),
         predecessor: predecessors[e] as u64,
     }
 }
 
 // The relations of one event: question 9, then its held locks and their count, match, writer and predecessor.
-pub fn relations(recording: &[u8], event: u64) -> model::Relations
-    ensures { result ≡ relations recording.now event }
+pub fn relations(recording: &[u8], event: u64) -> Result<Related, Refusal>
+    ensures { relations_of result ≡ relations recording.now event }
 {
-    let checked = recording::check(recording);
-    if checked.refusal != 0 {
-        return refused(checked.refusal, checked.event);
-    }
-    if event == 0 {
-        return refused(9, 0);
-    }
+    recording::check(recording)?;
     let n = recording::event_count(recording);
-    if (n as u64) < event {
-        return refused(9, 0);
+    if event == 0 || (n as u64) < event {
+        return Err(Question::EventNumber.into());
     }
-    relations_of(&recording[2..], event as usize)
+    Ok(related(&recording[2..], event as usize))
 }

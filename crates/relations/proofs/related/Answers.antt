@@ -1,4 +1,4 @@
--- `relations::relations_of` meets its contract: the tables have the relations of each event. Assumes nothing.
+-- `relations::related` meets its contract: the tables have the relations of each event. Assumes nothing.
 use Prim.Native.Nat.{◌≤◌}
 use native.Mathlib.Omega.{arith}
 use lib.ListN.{length}
@@ -6,8 +6,8 @@ use Rattle.model.specs.Recording.{decode_all}
 use Rattle.laws.proofs.Trace.{decode_all-length}
 use Rattle.relations.specs.Tables.{Tables}
 use Rattle.relations.proofs.Tabled.{tables_answer, predecessor-fits}
-use Rattle.relations.proofs.relations_of.Goals as goal
-use Rattle.relations.proofs.relations_of.Goals.{After-matches-2-1, Start}
+use Rattle.relations.proofs.related.Goals as goal
+use Rattle.relations.proofs.related.Goals.{After-matches-2-1, Start}
 
 -- The event is one of the records.
 inside : (c : goal.Start) → c.args.e ≤ length (decode_all c.args.records.now)
@@ -37,6 +37,7 @@ overflow_cast-result-2 c =
 
 pub returns : goal.returns
 returns c =
-    rw (c.unmarked.ensures, c.writer_of.ensures)
-    (tables_answer (filled (goal.at.returns c).After-matches-2-1) c.args.e c.requires.2
-    (inside (goal.at.returns c).Start))
+    let inner = inside (goal.at.returns c).Start in
+    let z = filled (goal.at.returns c).After-matches-2-1 in
+    rw (c.unmarked.ensures, c.writer_of.ensures, c.operation.ensures, ← (z.operation_at c.args.e c.requires.2 inner))
+    (tables_answer z c.args.e c.requires.2 inner)
