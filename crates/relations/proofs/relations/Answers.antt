@@ -67,3 +67,12 @@ returns c =
     (omega (arith, check-count b ok, n, c.if-n-event.false)) in
     c.related.ensures ∙ ap (λ (σ : Trace). event_relations σ c.args.event) (part-trace b)
     ∙ sym (relations_answer b c.args.event ok event)
+
+pub slice_bounds-related-count : goal.slice_bounds-related-count
+slice_bounds-related-count c =
+    (check_bytes c.args.recording.now (accepted (goal.at.slice_bounds-related-count c).In_ok-check)).0
+
+pub slice_bounds-related-start : goal.slice_bounds-related-start
+slice_bounds-related-start c =
+    let h = (check_bytes c.args.recording.now (accepted (goal.at.slice_bounds-related-start c).In_ok-check)).0 in
+    search rules
