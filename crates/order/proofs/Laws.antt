@@ -1,7 +1,7 @@
 -- What noting one event does to the tables of predecessors, of what events await and of starts, with its
 -- operation, task and object as they were unpacked. Assumes nothing.
 use Prim.Native.Nat.{ℕ, ◌+◌, ◌-◌, ◌≤◌, ◌<◌}
-use mathlib.Core.Path.{◌≡◌, sym, ◌∙◌}
+use mathlib.Core.Path.{◌≡◌, refl, sym, ◌∙◌}
 use mathlib.Core.Logic.{⊎_elim, ◌≢◌}
 use mathlib.Core.Bool.{true}
 use mathlib.Core.List.{List}
@@ -10,6 +10,9 @@ use native.Mathlib.Omega.{arith}
 use lib.ListN.{length, get_or, set}
 use lib.Seq.{get_or-set_same, get_or-set_other}
 use borrow.Author.Tests.{eq-eqb, ne_eqb}
+use Rattle.sections.specs.declared.Kind as K
+use Rattle.sections.specs.declared.Kind.TheVariants.{Read, Write, Acquire, Release, Uncounted}
+use Rattle.sections.specs.Kinds.{kind_code}
 use Rattle.model.specs.Trace.{Trace, tasks, variables, at, task, object, is_write}
 use Rattle.model.specs.Tasks.{target}
 use Rattle.model.specs.Relations.{last_of, predecessor, joined}
@@ -107,12 +110,6 @@ module _ (σ : Trace) (e : ℕ) {op : ℕ} (q : op ≡ (at σ e).op) where
       → Filled (predecessor σ) (e + 1) table × Starts σ (e + 1) table
   other_noted {table} f z d = (f, rw (add-one e) (starts_keep σ e table z (is_start-none σ e q d)))
 
--- Nor does an event of another kind.
-pub kind_noted : (σ : Trace) (e : ℕ) {k : ℕ} → k ≡ kind σ e → {table : List ℕ}
-    → Filled (predecessor σ) (e + 1) table → Starts σ e table → k ≢ 4
-    → Filled (predecessor σ) (e + 1) table × Starts σ (e + 1) table
-kind_noted σ e q {table} f z d = (f, rw (add-one e) (starts_keep σ e table z (is_start-kind σ e q d)))
-
 -- ---- the predecessor
 
 module _ (σ : Trace) (e : ℕ) {t r : ℕ} (is-task : (t < tasks) × (t ≡ task σ e)) (q : r ≡ last_of σ e t)
@@ -184,3 +181,13 @@ module _ (σ : Trace) (e : ℕ) {k : ℕ} (q : k ≡ kind σ e) {writes table : 
       pub outer_noted : k ≢ 1
           → Filled (awaited σ) (e + 1) (set table e 0) × LatestEvents (is_write σ) (object σ) (e + 1) writes
       outer_noted m = (nothing, unwritten m)
+
+-- ---- kinds
+
+-- A kind that is neither a read's nor a write's has another number.
+pub outer_kind : (k : K.Kind) → k ≢ Read → k ≢ Write → (kind_code k ≢ 0) × (kind_code k ≢ 1)
+outer_kind Read a b = absurd (a refl)
+outer_kind Write a b = absurd (b refl)
+outer_kind Acquire a b = (omega arith, omega arith)
+outer_kind Release a b = (omega arith, omega arith)
+outer_kind Uncounted a b = (omega arith, omega arith)

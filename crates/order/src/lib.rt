@@ -10,17 +10,19 @@ ghost use Rattle.model.specs.Calls.Check.{check_events};
 ghost use Rattle.laws.specs.Sizes.{table_length, order_length};
 ghost use Rattle.laws.specs.Order.{awaited};
 ghost use Rattle.laws.specs.EventKinds.{kind};
+ghost use Rattle.sections.specs.Kinds.{kind_code};
 ghost use Rattle.laws.specs.Walked.{Filled, LatestEvents, Starts};
+
+use recording::Op;
+use sections::Kind;
 
 // Clears the entries of the tasks' starts.
 pub fn clear_starts(predecessors: &mut [u16])
     requires { length predecessors.old ≡ order_length }
     ensures { (t : ℕ) → t < tasks → get_or predecessors.new (table_length + t) 0 ≡ 0 }
 {
-    let mut t = 0;
-    while t < 16 {
+    for t in 0..16 {
         predecessors[4096 + t] = 0;
-        t = t + 1;
     }
 }
 
@@ -48,14 +50,16 @@ fn joined_of(records: &[u8], e: usize, predecessors: &[u16], latest: &[u16]) -> 
         × LatestEvents (λ f. true) (task (decode_all records.now)) e latest.now }
     ensures { result ≡ joined (decode_all records.now) e }
 {
-    if recording::opcode(records, e) != 3 {
-        return 0;
+    match recording::operation(records, e) {
+        Op::Release => {
+            let o = recording::object(records, e) as usize;
+            if o < 64 {
+                return 0;
+            }
+            last_of(records, e, predecessors, latest, o - 64)
+        }
+        _ => 0,
     }
-    let o = recording::object(records, e) as usize;
-    if o < 64 {
-        return 0;
-    }
-    last_of(records, e, predecessors, latest, o - 64)
 }
 
 // Notes what event e, of kind k, awaits: of a read the latest write of its variable, of a join what it waits
@@ -63,14 +67,14 @@ fn joined_of(records: &[u8], e: usize, predecessors: &[u16], latest: &[u16]) -> 
 fn note_awaited(
     records: &[u8],
     e: usize,
-    k: u8,
+    k: Kind,
     predecessors: &[u16],
     latest: &[u16],
     writers: &mut [u16],
     writes: &mut [u16],
 )
     requires { (1 ≤ e) × (2 * e ≤ length records.now) × (e < table_length)
-        × ((check_events (decode_all records.now)).refusal ≡ 0) × (k ≡ kind (decode_all records.now) e)
+        × ((check_events (decode_all records.now)).refusal ≡ 0) × (kind_code k ≡ kind (decode_all records.now) e)
         × (length predecessors.now ≡ order_length) × (length latest.now ≡ tasks)
         × Starts (decode_all records.now) e predecessors.now
         × LatestEvents (λ f. true) (task (decode_all records.now)) e latest.now
@@ -83,18 +87,15 @@ fn note_awaited(
         (object (decode_all records.now))
         (e + 1) writes.new }
 {
-    if k == 4 {
-        writers[e] = joined_of(records, e, predecessors, latest);
-        return;
-    }
     let v = recording::object(records, e) as usize;
-    if k == 0 {
-        writers[e] = writes[v];
-        return;
-    }
-    writers[e] = 0;
-    if k == 1 {
-        writes[v] = e as u16;
+    match k {
+        Kind::Uncounted => writers[e] = joined_of(records, e, predecessors, latest),
+        Kind::Read => writers[e] = writes[v],
+        Kind::Write => {
+            writers[e] = 0;
+            writes[v] = e as u16;
+        }
+        _ => writers[e] = 0,
     }
 }
 
@@ -115,10 +116,10 @@ fn note_task(records: &[u8], e: usize, predecessors: &mut [u16], latest: &mut [u
     latest[t] = e as u16;
 }
 
-// Notes event e, of kind k, where it is a start.
-fn note_start(records: &[u8], e: usize, k: u8, predecessors: &mut [u16])
+// Notes event e where it is a start.
+fn note_start(records: &[u8], e: usize, predecessors: &mut [u16])
     requires { (1 ≤ e) × (2 * e ≤ length records.now) × (e < table_length)
-        × ((check_events (decode_all records.now)).refusal ≡ 0) × (k ≡ kind (decode_all records.now) e)
+        × ((check_events (decode_all records.now)).refusal ≡ 0)
         × (length predecessors.old ≡ order_length)
         × Filled (predecessor (decode_all records.now)) (e + 1) predecessors.old
         × Starts (decode_all records.now) e predecessors.old }
@@ -126,17 +127,15 @@ fn note_start(records: &[u8], e: usize, k: u8, predecessors: &mut [u16])
         predecessors.new
         × Starts (decode_all records.now) (e + 1) predecessors.new }
 {
-    if k != 4 {
-        return;
+    match recording::operation(records, e) {
+        Op::Acquire => {
+            let o = recording::object(records, e) as usize;
+            if 64 <= o {
+                predecessors[4032 + o] = e as u16;
+            }
+        }
+        _ => {}
     }
-    if recording::opcode(records, e) != 2 {
-        return;
-    }
-    let o = recording::object(records, e) as usize;
-    if o < 64 {
-        return;
-    }
-    predecessors[4032 + o] = e as u16;
 }
 
 // Notes the predecessor of event e, of kind k, and what it awaits, and what later events need of it for
@@ -144,14 +143,14 @@ fn note_start(records: &[u8], e: usize, k: u8, predecessors: &mut [u16])
 pub fn note_order(
     records: &[u8],
     e: usize,
-    k: u8,
+    k: Kind,
     predecessors: &mut [u16],
     latest: &mut [u16],
     writers: &mut [u16],
     writes: &mut [u16],
 )
     requires { (1 ≤ e) × (2 * e ≤ length records.now) × (e < table_length)
-        × ((check_events (decode_all records.now)).refusal ≡ 0) × (k ≡ kind (decode_all records.now) e)
+        × ((check_events (decode_all records.now)).refusal ≡ 0) × (kind_code k ≡ kind (decode_all records.now) e)
         × (length predecessors.old ≡ order_length) × (length latest.old ≡ tasks)
         × (length writers.old ≡ table_length) × (length writes.old ≡ variables)
         × Filled (predecessor (decode_all records.now)) e predecessors.old
@@ -171,5 +170,5 @@ pub fn note_order(
 {
     note_awaited(records, e, k, predecessors, latest, writers, writes);
     note_task(records, e, predecessors, latest);
-    note_start(records, e, k, predecessors);
+    note_start(records, e, predecessors);
 }

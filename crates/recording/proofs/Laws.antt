@@ -68,6 +68,20 @@ code_release Write h d = absurd (omega (arith, h))
 code_release Acquire h d = absurd (d refl)
 code_release Release h d = refl
 
+-- No other operation has an acquire's number,
+pub code_acquire : (o : Op) → o ≢ Acquire → code o ≢ 2
+code_acquire Read d = omega arith
+code_acquire Write d = omega arith
+code_acquire Acquire d = absurd (d refl)
+code_acquire Release d = omega arith
+
+-- nor a release's.
+pub code-no_release : (o : Op) → o ≢ Release → code o ≢ 3
+code-no_release Read d = omega arith
+code-no_release Write d = omega arith
+code-no_release Acquire d = omega arith
+code-no_release Release d = absurd (d refl)
+
 -- ---- an event
 
 -- An event with its operation and object, to which the check has come.

@@ -12,6 +12,7 @@ ghost use Rattle.model.specs.Calls.Relations.{relations};
 ghost use Rattle.laws.specs.Sizes.{records_length, table_length, order_length};
 ghost use Rattle.model.specs.Answers.{relations_of};
 ghost use Rattle.recording.specs.Asked.{code};
+ghost use Rattle.sections.specs.Kinds.{kind_code};
 ghost use Rattle.laws.specs.Answered.{event_relations};
 ghost use Rattle.laws.specs.EventKinds.{kind};
 ghost use Rattle.laws.specs.Walked.{Filled, LatestEvents, KeptDepths, Locksets, Matches};
@@ -19,6 +20,7 @@ ghost use Rattle.relations.specs.Tables.{operation, Tables, Noted};
 
 use model::{Question, Refusal, Related};
 use recording::Op;
+use sections::Kind;
 
 // Notes what event e's own record says.
 fn note_record(
@@ -38,7 +40,7 @@ fn note_record(
         × Filled (task (decode_all records.now)) (e + 1) tasks.new
         × Filled (object (decode_all records.now)) (e + 1) objects.new }
 {
-    let op = recording::opcode(records, e);
+    let op = recording::operation(records, e) as u8;
     let t = recording::task(records, e);
     let o = recording::object(records, e);
     operations[e] = op;
@@ -55,7 +57,7 @@ fn note_locks(
     depths: &mut [u16],
     locksets: &mut [u64],
     acquires: &mut [u16],
-) -> u8
+) -> Kind
     requires { (1 ≤ e) × (2 * e ≤ length records.now) × (e < table_length)
         × ((check_events (decode_all records.now)).refusal ≡ 0)
         × (length holding.old ≡ table_length) × (length matches.old ≡ table_length)
@@ -66,7 +68,7 @@ fn note_locks(
         × Locksets (decode_all records.now) e locksets.old
         × LatestEvents (is_acquire (decode_all records.now)) (object (decode_all records.now)) e
         acquires.old }
-    ensures { (result ≡ kind (decode_all records.now) e)
+    ensures { (kind_code result ≡ kind (decode_all records.now) e)
         × (length acquires.new ≡ locks)
         × Filled (held (decode_all records.now)) (e + 1) holding.new
         × Matches (decode_all records.now) (e + 1) matches.new
@@ -144,8 +146,7 @@ pub fn fill_tables(
     let mut locksets = [0u64; 16];
     let mut acquires = [0u16; 64];
     order::clear_starts(predecessors);
-    let mut e = 1;
-    while e <= records.len() / 2 {
+    for e in 1..records.len() / 2 + 1 {
         note_event(
             records,
             e,
@@ -162,7 +163,6 @@ pub fn fill_tables(
             &mut locksets,
             &mut acquires,
         );
-        e = e + 1;
     }
 }
 

@@ -1,7 +1,7 @@
 -- The kind of one event, of an acquire by its held locks and of a release by the depth of its lock, and the
 -- depths after it. Assumes nothing.
 use Prim.Native.Nat.{ℕ, zero, suc, ◌+◌, ◌-◌, ◌≤◌, ◌<◌}
-use mathlib.Core.Path.{◌≡◌, sym, ◌∙◌}
+use mathlib.Core.Path.{◌≡◌, refl, sym, ◌∙◌}
 use mathlib.Core.Logic.{◌≢◌}
 use mathlib.Core.Bool.{true, false, cond, ◌||◌}
 use mathlib.Core.List.{List}
@@ -10,6 +10,9 @@ use native.Mathlib.Omega.{arith}
 use lib.Dec.{T, eqb, eqb→eq, eqb-suc-zero}
 use lib.ListN.{length, get_or, set}
 use borrow.Author.Tests.{eq-eqb, ne_eqb, eqb-true}
+use Rattle.sections.specs.declared.Kind as K
+use Rattle.sections.specs.declared.Kind.TheVariants.{Read, Write, Acquire, Release, Uncounted}
+use Rattle.sections.specs.Kinds.{kind_code}
 use Rattle.model.specs.Lists.{has_bit}
 use Rattle.model.specs.Trace.{Trace, tasks, locks, at, task, object, enters, leaves}
 use Rattle.model.specs.Relations.{held}
@@ -148,3 +151,19 @@ module _ {σ : Trace} {e op : ℕ} {depths : List ℕ} (u : Coming σ e op depth
         leave-kind 4 (rw (ne_eqb (get_or depths o 0) 1 d)),
         moved _ _ (kept_lowered small own (left a) d),
       )
+
+-- A kind that is not an acquire's or a release's has another number.
+pub other_kind : (k : K.Kind) → k ≢ Acquire → k ≢ Release → (kind_code k ≢ 2) × (kind_code k ≢ 3)
+other_kind Read a b = (omega arith, omega arith)
+other_kind Write a b = (omega arith, omega arith)
+other_kind Acquire a b = absurd (a refl)
+other_kind Release a b = absurd (b refl)
+other_kind Uncounted a b = (omega arith, omega arith)
+
+-- Nor has one that counts the number of those that do not.
+pub counted_kind : (k : K.Kind) → k ≢ Uncounted → kind_code k ≢ 4
+counted_kind Read d = omega arith
+counted_kind Write d = omega arith
+counted_kind Acquire d = omega arith
+counted_kind Release d = omega arith
+counted_kind Uncounted d = absurd (d refl)

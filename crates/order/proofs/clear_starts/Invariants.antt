@@ -10,6 +10,3 @@ abbrev pub invariant-loop-t : goal.invariant-loop-t
 invariant-loop-t l =
     (l.t ≤ tasks) × (length l.predecessors ≡ order_length)
     × ((u : ℕ) → u < l.t → get_or l.predecessors (table_length + u) 0 ≡ 0)
-
-abbrev pub decreases-loop-t : goal.decreases-loop-t
-decreases-loop-t l = tasks - l.t

@@ -1,20 +1,19 @@
 -- `order::joined_of` meets its contract: only a join waits for the last event of a task. Assumes nothing.
+use mathlib.Core.Path.{refl}
 use native.Mathlib.Omega.{arith}
 use Rattle.model.specs.Recording.{decode_all}
 use Rattle.laws.proofs.Questions.{events_sound}
+use Rattle.recording.proofs.Laws.{code-no_release}
 use Rattle.order.proofs.Laws.{WithObject, names-task, joined-task, joined_lock, joined_other}
 use Rattle.order.proofs.joined_of.Goals as goal
 use Rattle.order.proofs.joined_of.Goals.{After-object-o}
 
--- and the event with its operation and object.
-unpacked : (c : goal.After-object-o)
-    → WithObject (decode_all c.args.records.now) c.args.e
-    c.opcode.result c.object-o.result
-unpacked c = record { op_is = c.opcode.ensures; object_is = c.object-o.ensures }
+-- The release record with its object.
+unpacked : (c : goal.After-object-o) → WithObject (decode_all c.args.records.now) c.args.e 3 c.object-o.result
+unpacked c = record { op_is = (omega arith, c.in-Release.ensures); object_is = c.object-o.ensures }
 
-pub returns-then-opcode-ne3 : goal.returns-then-opcode-ne3
-returns-then-opcode-ne3 c =
-    joined_other _ _ c.opcode.ensures.1 c.if-opcode-ne3.true
+pub returns-in_default : goal.returns-in_default
+returns-in_default c = joined_other _ _ c.operation.ensures (code-no_release c.operation.result c.in_default.not-Release)
 
 pub returns-then-o-lt64 : goal.returns-then-o-lt64
 returns-then-o-lt64 c =
@@ -23,11 +22,9 @@ returns-then-o-lt64 c =
 pub last_of-requires : goal.last_of-requires
 last_of-requires c =
     let known = names-task (unpacked (goal.at.last_of-requires c).After-object-o)
-    (events_sound c.args.records.now c.requires.2)
-    (omega (arith, c.if-opcode-ne3.false)) in
+    (events_sound c.args.records.now c.requires.2) (omega arith) in
     (omega (arith, c.if-o-lt64.false), c.requires.3, c.requires.4, c.requires.5, c.requires.6)
 
-pub returns : goal.returns
-returns c =
-    joined-task (unpacked (goal.at.returns c).After-object-o) c.if-opcode-ne3.false c.if-o-lt64.false
-    c.last_of.ensures
+pub returns-else-o-lt64 : goal.returns-else-o-lt64
+returns-else-o-lt64 c =
+    joined-task (unpacked (goal.at.returns-else-o-lt64 c).After-object-o) refl c.if-o-lt64.false c.last_of.ensures

@@ -1,25 +1,29 @@
 -- `order::note_awaited` meets its contract: each return cites the law of its case. Assumes nothing.
-use Rattle.order.proofs.Laws.{uncounted_noted, read_noted, write_noted, outer_noted}
+use mathlib.Core.Path.{refl}
 use borrow.Author.Rules.{rules}
+use Rattle.sections.proofs.KindOf.{counted_kind}
+use Rattle.order.proofs.Laws.{uncounted_noted, read_noted, write_noted, outer_noted, outer_kind}
 use Rattle.order.proofs.note_awaited.Goals as goal
 
-pub returns-then-k-eq4 : goal.returns-then-k-eq4
-returns-then-k-eq4 c =
+pub returns-in-Uncounted : goal.returns-in-Uncounted
+returns-in-Uncounted c =
     uncounted_noted _ _ c.requires.4 c.requires.10 c.requires.12 c.requires.11 (search rules)
-    c.if-k-eq4.true
-    c.joined_of.ensures
+    (rw c.in-Uncounted.is refl) c.joined_of.ensures
 
-pub returns-then-k-eq0 : goal.returns-then-k-eq0
-returns-then-k-eq0 c =
+pub returns-in-Read : goal.returns-in-Read
+returns-in-Read c =
     read_noted _ _ c.requires.4 c.requires.10 c.requires.12 c.requires.11 (search rules) c.object-v.ensures
-    c.if-k-eq0.true
+    (rw c.in-Read.is refl)
 
-pub returns-then-k-eq1 : goal.returns-then-k-eq1
-returns-then-k-eq1 c =
-    write_noted _ _ c.requires.4 c.requires.10 c.requires.12 c.requires.11 (search rules) c.object-v.ensures
-    c.if-k-eq4.false c.if-k-eq0.false c.if-k-eq1.true
+pub returns-in-Write : goal.returns-in-Write
+returns-in-Write c =
+    let q = rw c.in-Write.is at c.requires.4 in
+    write_noted _ _ q c.requires.10 c.requires.12 c.requires.11 (search rules) c.object-v.ensures
+    (search rules) (search rules) refl
 
-pub returns-else-k-eq1 : goal.returns-else-k-eq1
-returns-else-k-eq1 c =
+pub returns-in_default : goal.returns-in_default
+returns-in_default c =
+    let d = c.in_default in
+    let other = outer_kind c.args.k d.not-Read d.not-Write in
     outer_noted _ _ c.requires.4 c.requires.10 c.requires.12 c.requires.11 (search rules) c.object-v.ensures
-    c.if-k-eq4.false c.if-k-eq0.false c.if-k-eq1.false
+    (counted_kind c.args.k d.not-Uncounted) other.0 other.1

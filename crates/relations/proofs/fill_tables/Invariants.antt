@@ -1,18 +1,11 @@
 -- `relations::fill_tables` meets its contract: before each event the tables have the relations of the earlier
 -- ones. Assumes nothing.
-use Prim.Native.Nat.{◌+◌, ◌-◌, ◌/◌, ◌≤◌}
-use lib.ListN.{length}
 use Rattle.model.specs.Recording.{decode_all}
 use Rattle.relations.specs.Tables.{Noted}
 use Rattle.relations.proofs.fill_tables.Given as goal
 
 abbrev pub invariant-loop-e : goal.invariant-loop-e
 invariant-loop-e l =
-    (1 ≤ l.e) × (l.e ≤ length l.records / 2 + 1)
-    × Noted (decode_all l.records) l.e l.operations l.tasks l.objects l.holding l.predecessors l.writers
+    Noted (decode_all l.records) l.e l.operations l.tasks l.objects l.holding l.predecessors l.writers
     l.matches l.latest l.writes
     l.depths l.locksets l.acquires
-
-abbrev pub decreases-loop-e : goal.decreases-loop-e
-decreases-loop-e l =
-    length l.records / 2 + 1 - l.e

@@ -1,0 +1,2 @@
+-- The numbers of an event's kinds; the kind itself is in `laws`.
+pub mod Kinds
