@@ -5,9 +5,12 @@
 #![tactic(auto)]
 
 ghost use Rattle.std.specs.Prelude.{◌<◌, ◌≡◌, ◌++◌, length, OnOk, string_bytes, codes, decimal};
+ghost use Rattle.model.specs.Refused.{number};
+ghost use Rattle.model.specs.Answers.{listed_of};
 ghost use Rattle.model.specs.Calls.List.{list, list_out};
 ghost use Rattle.lockreport.specs.Text.{Entries};
 
+use model::{Entries, Refusal};
 use std::alloc::{AllocError, Global};
 use std::io::{Read, Write};
 
@@ -59,16 +62,17 @@ fn put_listing(text: &mut String, entries: &[u8], patterns: u64) -> Result<(), A
 }
 
 // Puts the line of a refusal: "refused", its number, "at" and the event.
-fn put_refusal(text: &mut String, refusal: u64, event: u64) -> Result<(), AllocError>
+fn put_refusal(text: &mut String, refusal: Refusal) -> Result<(), AllocError>
     ensures { OnOk result (string_bytes text.new ≡ string_bytes text.old
-        ++ codes "refused " ++ decimal refusal ++ codes " at " ++ decimal event ++ codes "\n") }
+        ++ codes "refused " ++ decimal (number refusal.question)
+        ++ codes " at " ++ decimal refusal.event ++ codes "\n") }
 {
-    writeln!(text, "refused {refusal} at {event}")
+    writeln!(text, "refused {} at {}", refusal.question.number(), refusal.event)
 }
 
 // The listing that the lines show: pairs alone, which readers of lockreport like.
-fn list_pairs(recording: &[u8], out: &mut [u8]) -> model::Listed
-    ensures answer { result ≡ list recording.now 2 (length out.old) }
+fn list_pairs(recording: &[u8], out: &mut [u8]) -> Result<Entries, Refusal>
+    ensures answer { listed_of result ≡ list recording.now 2 (length out.old) }
     ensures output { out.new ≡ list_out recording.now 2 out.old }
 {
     listing::list(recording, 2, out)
@@ -78,13 +82,13 @@ fn list_pairs(recording: &[u8], out: &mut [u8]) -> model::Listed
 fn report(alloc: Global, recording: &[u8]) -> Result<String, AllocError> {
     let mut out = [0u8; 65536];
     let mut text = String::new(alloc);
-    let listed = list_pairs(recording, &mut out);
-    if listed.refusal != 0 {
-        put_refusal(&mut text, listed.refusal, listed.event)?;
-        return Ok(text);
+    match list_pairs(recording, &mut out) {
+        Ok(listed) => {
+            let bytes = listed.bytes as usize;
+            put_listing(&mut text, &out[..bytes], listed.patterns)?;
+        }
+        Err(refusal) => put_refusal(&mut text, refusal)?,
     }
-    let bytes = listed.bytes as usize;
-    put_listing(&mut text, &out[..bytes], listed.patterns)?;
     Ok(text)
 }
 

@@ -1,40 +1,62 @@
-// The public calls: each is made on bytes and numbers, and its answer put as a line behind the text so far.
+// The public calls: each is made on bytes and numbers, and its answer put as a line behind the text so far. A
+// refusal is told by its number, its event and zeros.
+ghost use Rattle.std.specs.Prelude.{◌≤◌};
+
 use crate::text;
+use model::{Refusal, Verdict};
 use std::alloc::AllocError;
+
+// The fields of a refused answer.
+fn refused<const FIELDS: usize>(refusal: Refusal) -> [u64; FIELDS]
+    requires { 2 ≤ FIELDS }
+{
+    let mut fields = [0; FIELDS];
+    fields[0] = refusal.question.number();
+    fields[1] = refusal.event;
+    fields
+}
 
 // Checks a recording.
 pub fn tell_check(recording: &[u8], text: &mut String) -> Result<(), AllocError> {
-    let checked = recording::check(recording);
-    let fields = [checked.refusal, checked.event];
+    let fields = match recording::check(recording) {
+        Ok(()) => [0, 0],
+        Err(refusal) => refused(refusal),
+    };
     text::put_answer(text, &fields)
 }
 
 // Tells the relations of an event.
 pub fn tell_relations(recording: &[u8], event: u64, text: &mut String) -> Result<(), AllocError> {
-    let found = relations::relations(recording, event);
-    let fields = [
-        found.refusal,
-        found.event,
-        found.held,
-        found.locks,
-        found.matching,
-        found.writer,
-        found.predecessor,
-    ];
+    let fields = match relations::relations(recording, event) {
+        Ok(found) => [
+            0,
+            0,
+            found.held,
+            found.locks,
+            found.matching,
+            found.writer,
+            found.predecessor,
+        ],
+        Err(refusal) => refused(refusal),
+    };
     text::put_answer(text, &fields)
 }
 
 // Tells the load of a lock.
 pub fn tell_load(recording: &[u8], lock: u64, text: &mut String) -> Result<(), AllocError> {
-    let found = load::load(recording, lock);
-    let fields = [found.refusal, found.event, found.percent];
+    let fields = match load::load(recording, lock) {
+        Ok(percent) => [0, 0, percent],
+        Err(refusal) => refused(refusal),
+    };
     text::put_answer(text, &fields)
 }
 
 // Closes an event set.
 pub fn tell_close(recording: &[u8], set: &mut [u8], text: &mut String) -> Result<(), AllocError> {
-    let closed = closure::close(recording, set);
-    let fields = [closed.refusal, closed.event, closed.added];
+    let fields = match closure::close(recording, set) {
+        Ok(added) => [0, 0, added],
+        Err(refusal) => refused(refusal),
+    };
     text::put_lending(text, &fields, set)
 }
 
@@ -45,44 +67,49 @@ pub fn tell_list(
     out: &mut [u8],
     text: &mut String,
 ) -> Result<(), AllocError> {
-    let listed = listing::list(recording, size, out);
-    let fields = [listed.refusal, listed.event, listed.patterns, listed.bytes];
+    let fields = match listing::list(recording, size, out) {
+        Ok(listed) => [0, 0, listed.patterns, listed.bytes],
+        Err(refusal) => refused(refusal),
+    };
     text::put_lending(text, &fields, out)
 }
 
-// Tells the verdict of a pattern.
+// Tells the verdict of a pattern: 1 for deadlock.
 pub fn tell_verdict(recording: &[u8], pattern: &[u8], text: &mut String) -> Result<(), AllocError> {
-    let decided = deadlock::verdict(recording, pattern);
-    let fields = [decided.refusal, decided.event, decided.deadlock as u64];
+    let fields = match deadlock::verdict(recording, pattern) {
+        Ok(Verdict::Not) => [0, 0, 0],
+        Ok(Verdict::Deadlock) => [0, 0, 1],
+        Err(refusal) => refused(refusal),
+    };
     text::put_answer(text, &fields)
 }
 
-// Writes the witness of a pattern.
+// Writes the witness of a pattern: 1 for deadlock, and the bytes of schedule.
 pub fn tell_witness(
     recording: &[u8],
     pattern: &[u8],
     out: &mut [u8],
     text: &mut String,
 ) -> Result<(), AllocError> {
-    let found = deadlock::witness(recording, pattern, out);
-    let fields = [
-        found.refusal,
-        found.event,
-        found.deadlock as u64,
-        found.bytes,
-    ];
+    let fields = match deadlock::witness(recording, pattern, out) {
+        Ok(None) => [0, 0, 0, 0],
+        Ok(Some(bytes)) => [0, 0, 1, bytes],
+        Err(refusal) => refused(refusal),
+    };
     text::put_lending(text, &fields, out)
 }
 
-// Checks a schedule for a pattern.
+// Checks a schedule for a pattern: 1 for a valid one.
 pub fn tell_schedule(
     recording: &[u8],
     pattern: &[u8],
     schedule: &[u8],
     text: &mut String,
 ) -> Result<(), AllocError> {
-    let checked = schedule::check_schedule(recording, pattern, schedule);
-    let fields = [checked.refusal, checked.event, checked.valid as u64];
+    let fields = match schedule::check_schedule(recording, pattern, schedule) {
+        Ok(valid) => [0, 0, u64::from(valid)],
+        Err(refusal) => refused(refusal),
+    };
     text::put_answer(text, &fields)
 }
 
@@ -94,8 +121,7 @@ pub fn tell_clist(
     text: &mut String,
 ) -> Result<(), AllocError> {
     let number = hidzvoma::hidzvoma_list(recording, size, out);
-    let fields = [number];
-    text::put_lending(text, &fields, out)
+    text::put_lending(text, &[number], out)
 }
 
 // Tells a verdict as a C program gets it.
@@ -105,6 +131,5 @@ pub fn tell_cverdict(
     text: &mut String,
 ) -> Result<(), AllocError> {
     let number = hidzvoma::hidzvoma_verdict(recording, pattern);
-    let fields = [number];
-    text::put_answer(text, &fields)
+    text::put_answer(text, &[number])
 }
