@@ -1,8 +1,8 @@
 -- Laws of the entries of patterns, of the output with them, and of what a search has found so far.
 -- Assumes nothing.
+use Rattle.std.specs.Prelude.{Result, Ok, Err}
 use Prim.Native.Nat.{ℕ, ◌+◌, ◌*◌, ◌-◌, ◌≤◌, ◌<◌}
 use mathlib.Core.Path.{◌≡◌, refl, sym, ap, ◌∙◌}
-use mathlib.Core.Bool.{true, false, true≢false}
 use mathlib.Core.List.{List, [], ◌∷◌, ◌++◌, append-nil, append_assoc}
 use native.Mathlib.Omega.{arith}
 use native.Mathlib.Numerals.{add-one}
@@ -13,6 +13,7 @@ use Rattle.model.specs.Calls.List.{entries}
 use Rattle.laws.proofs.Bytes.{encode-length, encode-append}
 use Rattle.laws.proofs.Parts.{sets-append}
 use Rattle.entries.specs.declared.Found.{Found}
+use Rattle.entries.specs.declared.Full.{Full}
 use Rattle.entries.specs.Taken.{Taken, Adds}
 
 -- ---- entries
@@ -58,104 +59,95 @@ entry_more out path i h =
 -- ---- what is found
 
 -- Nothing is found at the start.
-pub taken_start : (room : ℕ) (out : List ℕ) (f : Found) → f.patterns ≡ 0 → f.bytes ≡ 0 → f.full ≡ false
-    → Taken room [] out out f
-taken_start room out f p b n =
+pub taken_start : (room : ℕ) (out : List ℕ) → Taken room [] out out (Ok (record { patterns = 0; bytes = 0 }))
+taken_start room out =
     record {
       long = refl;
-      counted = λ _. (p, b);
-      written = λ _ _. refl;
-      over = λ y. absurd (true≢false (sym y ∙ n));
+      counted = (refl, refl);
+      written = λ _. refl;
+      over = tt;
     }
 
 -- Without patterns nothing is added.
-pub adds_none : (room : ℕ) (out : List ℕ) (f : Found) → Adds room [] out out f f
+pub adds_none : (room : ℕ) (out : List ℕ) (f : Found) → Adds room [] out out f (Ok f)
 adds_none room out f = record { adds = λ ps out₀ t. rw (append-nil ps) t }
 
 -- Patterns are added one after the other.
-pub adds_trans : (room : ℕ) (xs ys : List (List ℕ)) (a b c : List ℕ) (f g h : Found)
-    → Adds room xs a b f g → Adds room ys b c g h → Adds room (xs ++ ys) a c f h
-adds_trans room xs ys a b c f g h x y =
+pub adds_trans : (room : ℕ) (xs ys : List (List ℕ)) (a b c : List ℕ) (f g : Found) (r : Result Found Full)
+    → Adds room xs a b f (Ok g) → Adds room ys b c g r → Adds room (xs ++ ys) a c f r
+adds_trans room xs ys a b c f g r x y =
     record {
       adds = λ ps out₀ t. rw (← append_assoc ps xs ys) (y.adds (ps ++ xs) out₀ (x.adds ps out₀ t));
     }
 
--- Once full, what is found is only known to take more than the room,
-pub taken_past : (room : ℕ) (ps : List (List ℕ)) (out₀ out : List ℕ) (f : Found) → f.full ≡ true
-    → length out ≡ length out₀ → room < length (entries ps) → Taken room ps out₀ out f
-taken_past room ps out₀ out f y long more =
+-- Once full, what is found takes more than the room, and it still does with more patterns.
+pub taken_over : (room : ℕ) (ps qs : List (List ℕ)) (out₀ out : List ℕ) (e : Full)
+    → Taken room ps out₀ out (Err e) → Taken room (ps ++ qs) out₀ out (Err e)
+taken_over room ps qs out₀ out e t =
     record {
-      long = long;
-      counted = λ n. absurd (true≢false (sym y ∙ n));
-      written = λ n _. absurd (true≢false (sym y ∙ n));
-      over = λ _. more;
+      long = t.long;
+      counted = tt;
+      written = tt;
+      over = omega (arith, t.over, entries-length ps qs);
     }
 
--- and it still does with more patterns.
-pub taken_over : (room : ℕ) (ps qs : List (List ℕ)) (out₀ out : List ℕ) (f : Found) → f.full ≡ true
-    → Taken room ps out₀ out f → Taken room (ps ++ qs) out₀ out f
-taken_over room ps qs out₀ out f y t =
-    taken_past room (ps ++ qs) out₀ out f y t.long (omega (arith, t.over y, entries-length ps qs))
-
 -- Once the room is exceeded, any further patterns may be added.
-pub adds_over : (room : ℕ) (xs ys : List (List ℕ)) (a b : List ℕ) (f g : Found) → Adds room xs a b f g
-    → g.full ≡ true → Adds room (xs ++ ys) a b f g
-adds_over room xs ys a b f g x y =
+pub adds_over : (room : ℕ) (xs ys : List (List ℕ)) (a b : List ℕ) (f : Found) (e : Full)
+    → Adds room xs a b f (Err e) → Adds room (xs ++ ys) a b f (Err e)
+adds_over room xs ys a b f e x =
     record {
       adds =
           λ ps out₀ t. rw (← append_assoc ps xs ys)
-          (taken_over room (ps ++ xs) ys out₀ b g y (x.adds ps out₀ t));
+          (taken_over room (ps ++ xs) ys out₀ b e (x.adds ps out₀ t));
     }
 
 -- ---- one pattern more
 
-module _ (room : ℕ) (ps : List (List ℕ)) (q out₀ out : List ℕ) (f g : Found) (n : f.full ≡ false)
-    (t : Taken room ps out₀ out f) where
-  -- A pattern whose entry does not fit the room exceeds it.
-  pub taken_full : room < f.bytes + length (entries (q ∷ [])) → g.full ≡ true
-      → Taken room (ps ++ q ∷ []) out₀ out g
-  taken_full r y =
-      taken_past room (ps ++ q ∷ []) out₀ out g y t.long
-      (omega (arith, (t.counted n).1, entries-length ps (q ∷ [])))
-
-  -- One that fits it is counted, and written behind those before where all of them fit the output.
-  pub taken_one : (out' : List ℕ) → length out' ≡ length out
-      → (f.bytes + length (entries (q ∷ [])) ≤ length out → out' ≡ sets out f.bytes (entries (q ∷ [])))
-      → g.patterns ≡ f.patterns + 1 → g.bytes ≡ f.bytes + length (entries (q ∷ [])) → g.full ≡ false
-      → Taken room (ps ++ q ∷ []) out₀ out' g
-  taken_one out' long w p b z =
-      let here : f.bytes ≡ 0 + length (entries ps) = omega (arith, (t.counted n).1) in
-      record {
-        long = long ∙ t.long;
-        counted = λ _. omega (arith, t.counted n, length-append ps (q ∷ []), entries-length ps (q ∷ []));
-        written =
-            λ _ fits. w (omega arith) ∙ rw (t.written n (omega arith), here, entries-append ps (q ∷ []))
-            (sets-append out₀ 0 (entries ps) (entries (q ∷ [])));
-        over = λ y. absurd (true≢false (sym y ∙ z));
-      }
-
-module _ (room size : ℕ) (out path : List ℕ) (f g : Found) (h : size ≤ length path)
-    (n : f.full ≡ false) where
+module _ (room size : ℕ) (out path : List ℕ) (f : Found) (h : size ≤ length path) where
   -- The front of a path, where its entry does not fit the room,
-  pub adds_full : room - f.bytes < 2 * size + 2 → g.full ≡ true
-      → Adds room (take size path ∷ []) out out f g
-  adds_full r y =
+  pub adds_full : room - f.bytes < 2 * size + 2 → (e : Full)
+      → Adds room (take size path ∷ []) out out f (Err e)
+  adds_full r e =
       record {
         adds =
-            λ ps out₀ t. taken_full room ps (take size path) out₀ out f g n t
-            (omega (arith, entry_length path size h)) y;
+            λ ps out₀ t. record {
+              long = t.long;
+              counted = tt;
+              written = tt;
+              over =
+                  omega (
+                    arith,
+                    t.counted,
+                    entry_length path size h,
+                    entries-length ps (take size path ∷ []),
+                  );
+            };
       }
 
-  -- and where it fits.
+  -- and where it fits: it is counted, and written behind those before where all of them fit the output.
   pub adds_one : (out' : List ℕ) → length out' ≡ length out
       → (f.bytes + (2 * size + 2) ≤ length out
       → out' ≡ sets out f.bytes (encode (size ∷ take size path)))
-      → g.patterns ≡ f.patterns + 1 → g.bytes ≡ f.bytes + (2 * size + 2) → g.full ≡ false
-      → Adds room (take size path ∷ []) out out' f g
-  adds_one out' long w p b z =
+      → Adds room (take size path ∷ []) out out' f
+      (Ok (record { patterns = f.patterns + 1; bytes = f.bytes + (2 * size + 2) }))
+  adds_one out' long w =
+      let q = take size path in
       let e = entry_length path size h in
       record {
         adds =
-            λ ps out₀ t. taken_one room ps (take size path) out₀ out f g n t out' long
-            (λ fits. rw (entry_of path size h) (w (omega arith))) p (omega arith) z;
+            λ ps out₀ t. let here : f.bytes ≡ 0 + length (entries ps) = omega (arith, t.counted) in record {
+              long = long ∙ t.long;
+              counted = (
+                omega (arith, t.counted, length-append ps (q ∷ [])),
+                omega (arith, e, here, entries-length ps (q ∷ [])),
+              );
+              written =
+                  λ fits. w (omega arith) ∙ rw (
+                    ← entry_of path size h,
+                    t.written (omega arith),
+                    here,
+                    entries-append ps (q ∷ []),
+                  ) (sets-append out₀ 0 (entries ps) (entries (q ∷ [])));
+              over = tt;
+            };
       }

@@ -2,19 +2,22 @@
 // where it fits there.
 #![tactic(auto)]
 
-ghost use Rattle.std.specs.Prelude.{◌+◌, ◌*◌, ◌<◌, ◌≤◌, ◌≡◌, false, [], ◌∷◌, length, take};
+ghost use Rattle.std.specs.Prelude.{◌+◌, ◌*◌, ◌<◌, ◌≤◌, ◌≡◌, [], ◌∷◌, length, take, IfOk};
 ghost use Rattle.std.proofs.lemmas.List.Edits.{sets};
 ghost use Rattle.model.specs.Bytes.{encode};
 ghost use Rattle.model.specs.Pattern.{largest_pattern};
 ghost use Rattle.entries.specs.Taken.{Adds, Roomy};
 
-// What a search has found: patterns and the bytes of their entries, unless these take more than the room.
-#[derive(Drop)]
+// What a search has found: patterns and the bytes of their entries.
+#[derive(Clone, Copy, Debug, PartialEq, Eq)]
 pub struct Found {
     pub patterns: usize,
     pub bytes: usize,
-    pub full: bool,
 }
+
+// Why a search ends early: the entries of what it has found take more than the room.
+#[derive(Clone, Copy, Debug, PartialEq, Eq)]
+pub struct Full;
 
 // Writes an entry at the front of the bytes: its size, and then its events.
 fn write_entry(out: &mut [u8], path: &[u16], size: usize)
@@ -23,10 +26,8 @@ fn write_entry(out: &mut [u8], path: &[u16], size: usize)
         (encode (size ∷ take size path.now)) }
 {
     recording::put_number(out, 0, size as u16);
-    let mut i = 0;
-    while i < size {
-        recording::put_number(out, 2 * i + 2, path[i]);
-        i = i + 1;
+    for (i, event) in path[..size].iter().enumerate() {
+        recording::put_number(out, 2 * i + 2, *event);
     }
 }
 
@@ -45,25 +46,24 @@ fn write_rest(out: &mut [u8], at: usize, path: &[u16], size: usize)
 
 // Takes the first `size` events of the path as a pattern: counts it and writes its entry, unless the entries
 // then exceed the room.
-pub fn take_pattern(out: &mut [u8], path: &[u16], size: usize, room: usize, found: Found) -> Found
-    requires { (size ≤ largest_pattern) × (size ≤ length path.now) × Roomy room found
-        × (found.full ≡ false) }
-    ensures { Roomy room result
-        × Adds room (take size path.now ∷ []) out.old out.new found result }
+pub fn take_pattern(
+    out: &mut [u8],
+    path: &[u16],
+    size: usize,
+    room: usize,
+    found: Found,
+) -> Result<Found, Full>
+    requires { (size ≤ largest_pattern) × (size ≤ length path.now) × Roomy room found }
+    ensures roomy { IfOk result (Roomy room) }
+    ensures adds { Adds room (take size path.now ∷ []) out.old out.new found result }
 {
     let bytes = 2 * size + 2;
     if room - found.bytes < bytes {
-        return Found {
-            patterns: found.patterns,
-            bytes: found.bytes,
-            full: true,
-        };
+        return Err(Full);
     }
-    let at = found.bytes;
-    write_rest(out, at, path, size);
-    Found {
+    write_rest(out, found.bytes, path, size);
+    Ok(Found {
         patterns: found.patterns + 1,
-        bytes: at + bytes,
-        full: false,
-    }
+        bytes: found.bytes + bytes,
+    })
 }
