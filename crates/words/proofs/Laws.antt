@@ -11,10 +11,12 @@ use native.Mathlib.Numerals.{add-one}
 use lib.Bits.{bit_or, bit_and, and_mask}
 use lib.Count.{ones}
 use lib.Dec.{eqb, leb, ltb}
-use lib.ListN.{length, get_or, set, get_or-eq_default, length-append}
+use lib.ListN.{length, get_or, set, take, get_or-eq_default, length-append}
 use lib.Pow.{shl_exact}
-use lib.Seq.{get_or-set_same, get_or-set_other}
+use lib.Seq.{get_or-set_same, get_or-set_other, take-length}
 use borrow.Author.Tests.{eq-eqb, ne_eqb, le-leb, lt-leb, lt-ltb, le-ltb, eqb-true}
+use Rattle.std.specs.List.{sum_by}
+use Rattle.std.proofs.lemmas.List.Sums.{sum_by_more}
 use Rattle.model.specs.Lists.{has_bit, filter, from}
 use Rattle.laws.specs.BitRow.{row_bit}
 use Rattle.laws.proofs.Tests.{equal?, at-most?, decided}
@@ -36,17 +38,6 @@ pub row_clear : (w : ℕ) (b : List ℕ) → ((k : ℕ) → k < length b → get
 row_clear w b h i =
     ⊎_elim (row_beyond w b i) (λ (l : i / w < length b). rw (h (i / w) l) (has_bit-none (w - 1 - i % w)))
     (at-most? (length b) (i / w))
-
--- A row whose first k elements are 0, and then the next is set to 0 too.
-pub clear_more : (b : List ℕ) (k : ℕ) → k < length b → ((j : ℕ) → j < k → get_or b j 0 ≡ 0) → (j : ℕ)
-    → j < k + 1 → get_or (set b k 0) j 0 ≡ 0
-clear_more b k h z j l = ⊎_elim same other (equal? j k)
-  where
-    same : j ≡ k → get_or (set b k 0) j 0 ≡ 0
-    same q = rw q (get_or-set_same b k 0 0 h)
-
-    other : j ≢ k → get_or (set b k 0) j 0 ≡ 0
-    other d = get_or-set_other b k j 0 0 d ∙ z j (omega arith)
 
 -- ---- bytes into words
 
@@ -215,11 +206,18 @@ word-places ws k h =
         let bit : (64 * k + i) % 64 ≡ i = omega arith in
         rw (word, bit)
 
--- A count of the first k words, and the ones of the next: that of one word more.
-pub count_more : (ws : List ℕ) (sum k : ℕ) → get_or ws k 0 < 2 ^ 64
-    → sum ≡ length (filter (row_bit 64 ws) (from 0 (64 * k)))
-    → sum + ones (get_or ws k 0) ≡ length (filter (row_bit 64 ws) (from 0 (64 * (k + 1))))
-count_more ws sum k h e =
-    let next : 64 * k + 64 ≡ 64 * (k + 1) = omega arith in
-    ap₂ (λ (x y : ℕ). x + y) e (sym (word-places ws k h)) ∙ sym (filter-count (row_bit 64 ws) (64 * k) 64)
+-- The ones of the first k words count their places,
+counted_to : (ws : List ℕ) → ((k : ℕ) → get_or ws k 0 < 2 ^ 64) → (k : ℕ) → k ≤ length ws
+    → sum_by ones (take k ws) ≡ length (filter (row_bit 64 ws) (from 0 (64 * k)))
+counted_to ws h zero l = refl
+counted_to ws h (suc k) l =
+    let next : 64 * k + 64 ≡ 64 * suc k = omega arith in
+    rw add-one at (sum_by_more ones ws k 0 (omega arith))
+    ∙ ap₂ (λ (x y : ℕ). x + y) (counted_to ws h k (omega arith)) (sym (word-places ws k (h k)))
+    ∙ sym (filter-count (row_bit 64 ws) (64 * k) 64)
     ∙ ap (λ (n : ℕ). length (filter (row_bit 64 ws) (from 0 n))) next
+
+-- and those of all words all places.
+pub ones_counted : (ws : List ℕ) → ((k : ℕ) → get_or ws k 0 < 2 ^ 64)
+    → sum_by ones ws ≡ length (filter (row_bit 64 ws) (from 0 (64 * length ws)))
+ones_counted ws h = rw take-length at (counted_to ws h (length ws) (omega arith))

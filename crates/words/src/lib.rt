@@ -11,8 +11,7 @@ pub fn has(words: &[u64], e: usize) -> bool
     requires { (1 ≤ e) × (e ≤ 64 * length words.now) }
     ensures { result ≡ row_bit 64 words.now (e - 1) }
 {
-    let down = (63 - (e - 1) % 64) as u64;
-    (words[(e - 1) / 64] >> down) & 1 == 1
+    (words[(e - 1) / 64] >> (63 - (e - 1) % 64)) & 1 == 1
 }
 
 // Puts event e into the set: sets its bit.
@@ -21,33 +20,17 @@ pub fn put(words: &mut [u64], e: usize)
     ensures { (i : ℕ) → row_bit 64 words.new i
         ≡ (row_bit 64 words.old i || eqb (e - 1) i) }
 {
-    let k = (e - 1) / 64;
-    let up = (63 - (e - 1) % 64) as u64;
-    words[k] = words[k] | (1 << up);
+    words[(e - 1) / 64] |= 1 << (63 - (e - 1) % 64);
 }
 
-// Takes every event out: each word is 0.
-pub fn clear(words: &mut [u64])
-    ensures { (i : ℕ) → row_bit 64 words.new i ≡ false }
-{
-    let mut k = 0;
-    while k < words.len() {
-        words[k] = 0;
-        k = k + 1;
-    }
-}
-
-// The bytes of a lent set as words: clears the words, and shifts each byte up to its place in its word.
+// The bytes of a lent set as words: clears these, and shifts each byte up to its place in its word.
 pub fn pack(set: &[u8], words: &mut [u64])
     requires { length set.now ≤ 8 * length words.old }
     ensures { (i : ℕ) → row_bit 64 words.new i ≡ row_bit 8 set.now i }
 {
-    clear(words);
-    let mut k = 0;
-    while k < set.len() {
-        let up = (56 - 8 * (k % 8)) as u64;
-        words[k / 8] = words[k / 8] | ((set[k] as u64) << up);
-        k = k + 1;
+    words.fill(0);
+    for (k, byte) in set.iter().enumerate() {
+        words[k / 8] |= (*byte as u64) << (56 - 8 * (k % 8));
     }
 }
 
@@ -57,11 +40,8 @@ pub fn unpack(words: &[u64], set: &mut [u8])
     ensures { (i : ℕ) → i < 8 * length set.old
         → row_bit 8 set.new i ≡ row_bit 64 words.now i }
 {
-    let mut k = 0;
-    while k < set.len() {
-        let down = (56 - 8 * (k % 8)) as u64;
-        set[k] = ((words[k / 8] >> down) & 255) as u8;
-        k = k + 1;
+    for (k, byte) in set.iter_mut().enumerate() {
+        *byte = ((words[k / 8] >> (56 - 8 * (k % 8))) & 255) as u8;
     }
 }
 
@@ -71,11 +51,5 @@ pub fn count(words: &[u64]) -> u64
     ensures { result ≡ length (filter (row_bit 64 words.now)
         (from 0 (64 * length words.now))) }
 {
-    let mut sum = 0;
-    let mut k = 0;
-    while k < words.len() {
-        sum = sum + u64::count_ones(words[k]) as u64;
-        k = k + 1;
-    }
-    sum
+    words.iter().map(|word| word.count_ones() as u64).sum()
 }

@@ -1,13 +1,10 @@
--- `words::count` meets its contract: the ones of the words passed are those of their places. Assumes nothing.
-use native.Mathlib.Omega.{arith}
-use lib.Count.{ones-le}
-use Rattle.words.proofs.Laws.{count_more}
+-- `words::count` meets its contract: the ones of the words are those of their places. Assumes nothing.
+use Rattle.std.proofs.Common.{◌≡◌, ◌∙◌, sum_by, count_ones, rules}
+use Rattle.words.proofs.Laws.{ones_counted}
 use Rattle.words.proofs.count.Goals as goal
 
-pub loop-k-preserved : goal.loop-k-preserved
-loop-k-preserved c =
-    let k = c.loop-k in
-    let small = (c.type_inv.words k.k).fits in
-    let most = ones-le 64 _ small in
+pub returns : goal.returns
+returns c =
     let ws = c.args.words.now in
-    (omega arith, omega arith, count_more ws k.sum k.k small k.invariant.2)
+    let ones : c.sum.result ≡ sum_by (λ w. count_ones w) ws = search rules in
+    ones ∙ ones_counted ws (λ k. (c.type_inv.words k).fits)
