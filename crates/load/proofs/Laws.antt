@@ -1,7 +1,7 @@
 -- The depth of a lock after one event more of accepted records, the count of the events after which it is
 -- above 0, and the cases of the rounding. Assumes nothing.
 use Prim.Native.Nat.{ℕ, ◌+◌, ◌-◌, ◌*◌, ◌/◌, ◌%◌, ◌≤◌, ◌<◌}
-use mathlib.Core.Path.{◌≡◌, sym, ◌∙◌}
+use mathlib.Core.Path.{◌≡◌, refl, sym, ◌∙◌}
 use mathlib.Core.Logic.{◌≢◌}
 use mathlib.Core.Bool.{cond}
 use native.Mathlib.Numerals.{add-one}
@@ -21,21 +21,20 @@ use Rattle.laws.proofs.LockDepth.{lock_depth-any, lock_depth-fits}
 
 -- ---- one event
 
--- Event e of a well-formed trace, with its operation, before which lock l is at depth d.
-pub record Coming (σ : Trace) (e op l d : ℕ) : Type 0 where
+-- Event e of a well-formed trace, before which lock l is at depth d.
+pub record Coming (σ : Trace) (e l d : ℕ) : Type 0 where
   pub sound : WellFormed σ
-  pub op_is : (op < 4) × (op ≡ (at σ e).op)
   pub depth_is : LockDepth σ e l d
 
-module _ {σ : Trace} {e op l d : ℕ} (u : Coming σ e op l d) where
+module _ {σ : Trace} {e l d : ℕ} (u : Coming σ e l d) where
   -- A depth is below the event's number.
   pub depth_below : 1 ≤ e → d < e
   depth_below h = omega (arith, lock_depth-fits σ u.depth_is)
 
   -- A read or a write leaves the depth.
-  pub access-depth : op < 2 → LockDepth σ (e + 1) l d
+  pub access-depth : (at σ e).op < 2 → LockDepth σ (e + 1) l d
   access-depth a =
-      let (no-enter, no-leave) = accesses_is σ e u.op_is.1 a in
+      let (no-enter, no-leave) = accesses_is σ e refl a in
       rw (add-one e) (lock_depth_access σ no-enter no-leave u.depth_is)
 
   module _ {o : ℕ} (q : o ≡ object σ e) where
@@ -51,15 +50,15 @@ module _ {σ : Trace} {e op l d : ℕ} (u : Coming σ e op l d) where
       own = rw (sym r ∙ q) at u.depth_is
 
       -- An acquire of the lock goes one deeper.
-      pub enter-depth : op ≡ 2 → LockDepth σ (e + 1) l (d + 1)
+      pub enter-depth : 2 ≡ (at σ e).op → LockDepth σ (e + 1) l (d + 1)
       enter-depth a =
-          let entered = enters_is σ e u.op_is.1 lock a in
+          let entered = enters_is σ e a lock refl in
           rw (add-one e, add-one d, sym r ∙ q) (lock_depth_enter σ u.sound entered own).1
 
       -- A release goes back by one, from a depth above 0.
-      pub leave-depth : 2 ≤ op → op ≢ 2 → (0 < d) × LockDepth σ (e + 1) l (d - 1)
-      leave-depth a n =
-          let left = leaves_is σ e u.op_is.1 lock (omega (arith, u.op_is)) in
+      pub leave-depth : 3 ≡ (at σ e).op → (0 < d) × LockDepth σ (e + 1) l (d - 1)
+      leave-depth a =
+          let left = leaves_is σ e a lock refl in
           let (_, deep, after) = lock_depth_leave σ u.sound left own in
           (deep, rw (add-one e, sym r ∙ q) after)
 

@@ -2,12 +2,16 @@
 #![tactic(auto)]
 
 ghost use Rattle.std.specs.Prelude.{◌+◌, ◌*◌, ◌<◌, ◌≤◌, ◌≡◌, length};
+ghost use Rattle.model.specs.Answers.{load_of};
 ghost use Rattle.model.specs.Trace.{locks};
 ghost use Rattle.model.specs.Recording.{decode_all};
 ghost use Rattle.model.specs.Calls.Check.{check_events};
 ghost use Rattle.model.specs.Calls.Load.{held_events, percent, load};
 ghost use Rattle.laws.specs.Sizes.{records_length, table_length};
 ghost use Rattle.laws.specs.Walked.{LockDepth};
+
+use model::{Question, Refusal};
+use recording::Op;
 
 // The depth of the lock after event e, given that before it, which is below e.
 fn depth_after(records: &[u8], e: usize, lock: u64, depth: u16) -> u16
@@ -16,17 +20,14 @@ fn depth_after(records: &[u8], e: usize, lock: u64, depth: u16) -> u16
         × LockDepth (decode_all records.now) e lock depth × (lock < locks) }
     ensures { LockDepth (decode_all records.now) (e + 1) lock result }
 {
-    let op = recording::opcode(records, e);
-    if op < 2 {
-        return depth;
-    }
     if recording::object(records, e) as u64 != lock {
         return depth;
     }
-    if op == 2 {
-        return depth + 1;
+    match recording::operation(records, e) {
+        Op::Read | Op::Write => depth,
+        Op::Acquire => depth + 1,
+        Op::Release => depth - 1,
     }
-    depth - 1
 }
 
 // How many events there are after which some task holds the lock.
@@ -38,13 +39,11 @@ fn count_held(records: &[u8], lock: u64) -> u64
 {
     let mut depth = 0u16;
     let mut held = 0;
-    let mut e = 1;
-    while e <= records.len() / 2 {
+    for e in 1..records.len() / 2 + 1 {
         depth = depth_after(records, e, lock, depth);
         if depth != 0 {
-            held = held + 1;
+            held += 1;
         }
-        e = e + 1;
     }
     held
 }
@@ -73,29 +72,14 @@ fn percentage(h: u64, n: u64) -> u64
 }
 
 // The load of one lock: question 14, then the per cent of events after which it is held.
-pub fn load(recording: &[u8], lock: u64) -> model::Load
-    ensures { result ≡ load recording.now lock }
+pub fn load(recording: &[u8], lock: u64) -> Result<u64, Refusal>
+    ensures { load_of result ≡ load recording.now lock }
 {
-    let checked = recording::check(recording);
-    if checked.refusal != 0 {
-        return model::Load {
-            refusal: checked.refusal,
-            event: checked.event,
-            percent: 0,
-        };
-    }
+    recording::check(recording)?;
     if 64 <= lock {
-        return model::Load {
-            refusal: 14,
-            event: 0,
-            percent: 0,
-        };
+        return Err(Question::LockNumber.into());
     }
     let n = recording::event_count(recording);
     let held = count_held(&recording[2..], lock);
-    model::Load {
-        refusal: 0,
-        event: 0,
-        percent: percentage(held, n as u64),
-    }
+    Ok(percentage(held, n as u64))
 }

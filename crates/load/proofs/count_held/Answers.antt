@@ -1,9 +1,8 @@
 -- `load::count_held` meets its contract: before each event the depth is the lock's, and the events passed
 -- are counted. Assumes nothing.
 use Prim.Native.Nat.{ℕ, ◌-◌}
-use mathlib.Core.Path.{◌≡◌, ap, ◌∙◌}
+use mathlib.Core.Path.{◌≡◌, ap, ◌∙◌, refl}
 use native.Mathlib.Omega.{arith}
-use borrow.Author.Rules.{rules}
 use lib.ListN.{length}
 use Rattle.model.specs.Lists.{filter, from}
 use Rattle.model.specs.Recording.{decode_all}
@@ -15,30 +14,20 @@ use Rattle.load.proofs.count_held.Goals as goal
 use Rattle.load.proofs.count_held.Goals.{then-depth-ne0, else-depth-ne0}
 
 pub loop-e-init : goal.loop-e-init
-loop-e-init c =
-    let b = c.args.records.now in (
-      search rules,
-      search rules,
-      search rules,
-      lock_depth-start (decode_all b) c.args.lock,
-      search rules,
-    )
+loop-e-init c = (omega arith, lock_depth-start (decode_all c.args.records.now) c.args.lock, refl)
 
 pub loop-e-preserved : goal.loop-e-preserved
 loop-e-preserved c =
     let σ = decode_all c.args.records.now in
     let k = c.loop-e in
     let h = c.depth_after-depth.ensures in (
-      search rules,
-      search rules,
       elim c.if-depth-ne0.branch [ then-depth-ne0 w ↦ omega arith | else-depth-ne0 w ↦ omega arith ],
       h,
       elim c.if-depth-ne0.branch [
         | then-depth-ne0 w ↦
-            w.held-is ∙ counted σ k.e c.args.lock _ k.invariant.0 h k.held k.invariant.4 w.if-depth-ne0.true
+            w.held-is ∙ counted σ k.e c.args.lock _ k.auto.e h k.held k.invariant.2 w.if-depth-ne0.true
         | else-depth-ne0 w ↦
-            w.held-is ∙ uncounted σ k.e c.args.lock _ k.invariant.0 h k.held k.invariant.4
-            w.if-depth-ne0.false
+            w.held-is ∙ uncounted σ k.e c.args.lock _ k.auto.e h k.held k.invariant.2 w.if-depth-ne0.false
       ],
     )
 
@@ -49,6 +38,6 @@ returns c =
     let last : k.e - 1 ≡ length (decode_all c.args.records.now) =
     omega (arith, decode_all-length c.args.records.now) in (
       omega arith,
-      k.invariant.4 ∙ ap (λ (n : ℕ). length (filter (is_held_after (decode_all c.args.records.now)
+      k.invariant.2 ∙ ap (λ (n : ℕ). length (filter (is_held_after (decode_all c.args.records.now)
           c.args.lock) (from 1 n))) last,
     )

@@ -1,8 +1,7 @@
 -- `load::count_held` meets its contract: before each event the depth is the lock's, and the events passed
 -- are counted. Assumes nothing.
-use Prim.Native.Nat.{◌+◌, ◌-◌, ◌/◌, ◌≤◌, ◌<◌}
+use Prim.Native.Nat.{◌<◌}
 use mathlib.Core.Path.{◌≡◌}
-use lib.ListN.{length}
 use Rattle.model.specs.Recording.{decode_all}
 use Rattle.laws.specs.Walked.{LockDepth}
 use Rattle.load.proofs.Laws.{held_before}
@@ -10,9 +9,5 @@ use Rattle.load.proofs.count_held.Given as goal
 
 abbrev pub invariant-loop-e : goal.invariant-loop-e
 invariant-loop-e l =
-    (1 ≤ l.e) × (l.e ≤ length l.records / 2 + 1) × (l.held < l.e)
-    × LockDepth (decode_all l.records) l.e l.lock l.depth
+    (l.held < l.e) × LockDepth (decode_all l.records) l.e l.lock l.depth
     × (l.held ≡ held_before (decode_all l.records) l.lock l.e)
-
-abbrev pub decreases-loop-e : goal.decreases-loop-e
-decreases-loop-e l = length l.records / 2 + 1 - l.e

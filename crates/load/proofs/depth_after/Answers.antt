@@ -1,57 +1,51 @@
 -- `load::depth_after` meets its contract: only an acquire or release of the lock changes its depth.
 -- Assumes nothing.
 use Prim.Native.Nat.{◌+◌, ◌-◌, ◌<◌}
+use mathlib.Core.Path.{◌≡◌}
+use mathlib.Core.Logic.{⊎_elim}
 use native.Mathlib.Omega.{arith}
 use Rattle.model.specs.Recording.{decode_all}
 use Rattle.laws.specs.Walked.{LockDepth}
 use Rattle.laws.proofs.Questions.{events_sound}
+use Rattle.recording.specs.declared.Op.TheVariants.{Read, Write}
 use Rattle.load.proofs.Laws.{Coming, depth_below, access-depth, other-depth, enter-depth, leave-depth}
 use Rattle.load.proofs.depth_after.Goals as goal
-use Rattle.load.proofs.depth_after.Goals.{After-opcode-op, Else-op-eq2}
+use Rattle.load.proofs.depth_after.Goals.{Start, In-Release}
 
--- The event with its operation.
-unpacked : (c : goal.After-opcode-op) → let a = c.args in
-    Coming (decode_all a.records.now) a.e c.opcode-op.result a.lock a.depth
-unpacked c =
-    record {
-      sound = events_sound c.args.records.now c.requires.3;
-      op_is = c.opcode-op.ensures;
-      depth_is = c.requires.4;
-    }
+-- The event that comes.
+coming : (c : goal.Start) → let a = c.args in Coming (decode_all a.records.now) a.e a.lock a.depth
+coming c = record { sound = events_sound c.args.records.now c.requires.3; depth_is = c.requires.4 }
 
 -- What a release does.
-back : (c : goal.Else-op-eq2) → let a = c.args in
+back : (c : goal.In-Release) → let a = c.args in
     (0 < a.depth) × LockDepth (decode_all a.records.now) (a.e + 1) a.lock (a.depth - 1)
 back c =
-    leave-depth (unpacked (goal.at.Else-op-eq2 c).After-opcode-op) c.object.ensures.1
-    c.if-object-lock.false c.requires.5
-    (omega (arith, c.if-op-lt2.false)) c.if-op-eq2.false
-
-pub returns-then-op-lt2 : goal.returns-then-op-lt2
-returns-then-op-lt2 c =
-    access-depth (unpacked (goal.at.returns-then-op-lt2 c).After-opcode-op) c.if-op-lt2.true
+    leave-depth (coming (goal.at.In-Release c).Start) c.object.ensures.1
+    c.if-object-lock.false c.requires.5 c.in-Release.ensures
 
 pub returns-then-object-lock : goal.returns-then-object-lock
 returns-then-object-lock c =
-    other-depth (unpacked (goal.at.returns-then-object-lock c).After-opcode-op) c.object.ensures.1
+    other-depth (coming (goal.at.returns-then-object-lock c).Start) c.object.ensures.1
     c.if-object-lock.true
 
 pub overflow_add-result : goal.overflow_add-result
 overflow_add-result c =
-    omega (
-      arith,
-      depth_below (unpacked (goal.at.overflow_add-result c).After-opcode-op) c.requires.0,
-      c.requires.1,
-      c.requires.2,
-    )
+    omega (arith, depth_below (coming (goal.at.overflow_add-result c).Start) c.requires.0, c.requires)
 
-pub returns-then-op-eq2 : goal.returns-then-op-eq2
-returns-then-op-eq2 c =
-    enter-depth (unpacked (goal.at.returns-then-op-eq2 c).After-opcode-op) c.object.ensures.1
-    c.if-object-lock.false c.requires.5 c.if-op-eq2.true
+pub returns-in-Read : goal.returns-in-Read
+returns-in-Read c =
+    let op = c.operation.ensures in
+    access-depth (coming (goal.at.returns-in-Read c).Start)
+    (⊎_elim (λ (q : c.operation.result ≡ Read). omega (arith, rw q at op))
+    (λ (q : c.operation.result ≡ Write). omega (arith, rw q at op)) c.in-Read.is)
+
+pub returns-in-Acquire : goal.returns-in-Acquire
+returns-in-Acquire c =
+    enter-depth (coming (goal.at.returns-in-Acquire c).Start) c.object.ensures.1
+    c.if-object-lock.false c.requires.5 c.in-Acquire.ensures
 
 pub overflow_sub-result : goal.overflow_sub-result
-overflow_sub-result c = (back (goal.at.overflow_sub-result c).Else-op-eq2).0
+overflow_sub-result c = (back (goal.at.overflow_sub-result c).In-Release).0
 
-pub returns : goal.returns
-returns c = (back (goal.at.returns c).Else-op-eq2).1
+pub returns-in-Release : goal.returns-in-Release
+returns-in-Release c = (back (goal.at.returns-in-Release c).In-Release).1
