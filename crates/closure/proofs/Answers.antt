@@ -6,6 +6,7 @@ use mathlib.Core.Bool.{Bool, true, false, not}
 use mathlib.Core.List.{List}
 use lib.ListN.{length}
 use borrow.Author.Tests.{eq-eqb, ne_eqb}
+use Rattle.model.specs.Answers.{Closed}
 use Rattle.model.specs.Lists.{all, from}
 use Rattle.model.specs.Recording.{trace}
 use Rattle.model.specs.EventSet.{members, set_length, lent_bit, lent_set, set_bytes}
@@ -13,7 +14,10 @@ use Rattle.model.specs.Closure.{closure}
 use Rattle.model.specs.Calls.Questions.{lends_set, lends_events}
 use Rattle.model.specs.Calls.Check.{check}
 use Rattle.model.specs.Calls.Close.{close_refusal, close, close_out}
-use Rattle.closure.specs.Reach.{refused_closed}
+
+-- The closure call, refused.
+abbrev pub refused_closed : ℕ → ℕ → Closed
+refused_closed refusal event = record { refusal = refusal; event = event; added = 0 }
 
 module _ (b set : List ℕ) where
   -- A recording that is refused.

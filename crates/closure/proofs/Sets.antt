@@ -2,19 +2,21 @@
 -- event. Assumes nothing.
 use Prim.Native.Nat.{ℕ, zero, suc, ◌+◌, ◌-◌, ◌*◌, ◌/◌, ◌%◌, ◌≤◌, ◌<◌}
 use mathlib.Core.Path.{◌≡◌, refl, sym, ap, ◌∙◌}
-use mathlib.Core.Logic.{⊎_elim, ◌≢◌}
-use mathlib.Core.Bool.{Bool, false, not, ◌&&◌, ◌||◌, or-false}
+use mathlib.Core.Logic.{⊎_elim}
+use mathlib.Core.Bool.{Bool, false, not, ◌&&◌}
 use mathlib.Core.List.{List, [], ◌∷◌, map, append-nil}
 use native.Mathlib.Omega.{arith}
-use lib.Dec.{T, eqb, ltb}
+use native.Mathlib.Numerals.{add-one}
+use lib.Dec.{T, ltb}
 use lib.ListN.{length, get_or, replicate, length-map, get_or-replicate, get_or-eq_default}
 use lib.Seq.{ext_get_or}
-use borrow.Author.Tests.{eq-eqb, ne_eqb, lt-ltb, le-ltb}
+use borrow.Author.Tests.{le-ltb}
+use Rattle.std.specs.List.{list_all, range_with_len}
 use Rattle.model.specs.Lists.{all, filter, from, has_bit}
 use Rattle.model.specs.Trace.{Trace}
 use Rattle.model.specs.EventSet.{EventSet, has, members, set_length, lent_bit, packed, set_bytes}
 use Rattle.laws.specs.BitRow.{row_bit}
-use Rattle.laws.proofs.Tests.{decided, equal?, at-most?, is_true, is_false}
+use Rattle.laws.proofs.Tests.{decided, at-most?, is_true, is_false}
 use Rattle.laws.proofs.Lists.{all_iff, from_iff, from_split}
 use Rattle.laws.proofs.Filters.{filter-append, filter_ext, filter_none, filter_map}
 use Rattle.laws.proofs.Bits.{has_bit-none, has_bit_ext, has_bit_beyond}
@@ -114,27 +116,9 @@ row-none ws i b q = rw (q, le-ltb i 0 (omega arith)) (row_clear 64 (replicate 64
     zeros : (k : ℕ) → k < length {A = ℕ} (replicate 64 0) → ◌≡◌ {A = ℕ} (get_or (replicate 64 0) k 0) 0
     zeros k h = get_or-replicate {A = ℕ} 64 k 0 0 h
 
--- The row of events to e with event e put in where it passes is that of the events to the next.
-pub row_more : (p : ℕ → Bool) (e i : ℕ) → 1 ≤ e
-    → ((ltb i (e - 1) && p (suc i)) || (eqb (e - 1) i && p e)) ≡ (ltb i e && p (suc i))
-row_more p zero i h = elim h [ ]
-row_more p (suc d) i h =
-    let back : suc d - 1 ≡ d = omega arith in
-    rw back (⊎_elim (λ q. rw (q, eq-eqb i i refl, le-ltb i i (omega arith), lt-ltb i (suc i) (omega arith)))
-    other (equal? d i))
-  where
-    other : d ≢ i → ((ltb i d && p (suc i)) || (eqb d i && p (suc d))) ≡ (ltb i (suc d) && p (suc i))
-    other x =
-        ⊎_elim (λ l. rw (ne_eqb d i x, le-ltb i d l, le-ltb i (suc d) (omega arith)))
-        (λ l. rw (ne_eqb d i x, lt-ltb i d l, lt-ltb i (suc d) (omega arith), or-false))
-        (at-most? d i)
-
 -- ---- the spare bits, one by one
 
--- The first of them decides where it is set.
-pub all_from : (p : ℕ → Bool) (e m : ℕ) → e ≤ m
-    → all p (from e (m + 1 - e)) ≡ (p e && all p (from (e + 1) (m + 1 - (e + 1))))
-all_from p e m h =
-    let more : m + 1 - e ≡ suc (m + 1 - (e + 1)) = omega arith in
-    let one : e + 1 ≡ suc e = omega arith in
-    rw (more, one)
+-- A test of each number of a range is one of each of the numbers from its first on.
+pub all-range : (p : ℕ → Bool) (a n : ℕ) → list_all p (range_with_len a n) ≡ all p (from a n)
+all-range p a zero = refl
+all-range p a (suc n) = rw add-one (ap (λ (b : Bool). p a && b) (all-range p (suc a) n))

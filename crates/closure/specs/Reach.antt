@@ -1,6 +1,5 @@
--- The frontier of the closure of a set in words, and a refused answer.
+-- The frontier of the closure of a set in words.
 use Rattle.std.specs.Prelude.{ℕ, ◌-◌, ◌≤◌, ◌≡◌, List, leb, length, get_or}
-use Rattle.model.specs.Answers.{Closed}
 use Rattle.model.specs.Trace.{Trace, task}
 use Rattle.model.specs.EventSet.{has, lent_bit, lent_set}
 use Rattle.model.specs.Closure.{closure}
@@ -11,7 +10,3 @@ pub record Closes (σ : Trace) (words front : List ℕ) : Type 0 where
   pub closes : (set : List ℕ) → ((e : ℕ) → 1 ≤ e → e ≤ length σ → lent_bit set e ≡ row_bit 64 words (e - 1))
       → (e : ℕ) → 1 ≤ e → e ≤ length σ → has (closure σ (lent_set σ set)) e
       ≡ leb e (get_or front (task σ e) 0)
-
--- The closure call, refused.
-abbrev pub refused_closed : ℕ → ℕ → Closed
-refused_closed refusal event = record { refusal = refusal; event = event; added = 0 }

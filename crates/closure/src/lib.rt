@@ -5,6 +5,7 @@
 ghost use Rattle.std.specs.Prelude.{ℕ, suc, ◌+◌, ◌-◌, ◌*◌, ◌<◌, ◌≤◌, ◌≡◌, not, ◌&&◌, ◌||◌, T, eqb, leb, ltb};
 ghost use Rattle.std.specs.Prelude.{length, get_or, replicate};
 ghost use Rattle.model.specs.Lists.{all, from};
+ghost use Rattle.model.specs.Answers.{closed_of};
 ghost use Rattle.model.specs.Trace.{tasks, task};
 ghost use Rattle.model.specs.Recording.{decode_all};
 ghost use Rattle.model.specs.EventSet.{members, set_length, lent_bit, lent_set, set_bytes};
@@ -14,15 +15,16 @@ ghost use Rattle.model.specs.Calls.Close.{close, close_out};
 ghost use Rattle.laws.specs.Sizes.{records_length, table_length};
 ghost use Rattle.laws.specs.Walked.{LatestEvents};
 ghost use Rattle.laws.specs.BitRow.{row_bit};
-ghost use Rattle.closure.specs.Reach.{Closes, refused_closed};
+ghost use Rattle.closure.specs.Reach.{Closes};
+
+use model::{Question, Refusal};
 
 // The bit of event e is set in the bytes of a lent set.
 fn lent_bit(set: &[u8], e: usize) -> bool
     requires { (1 ≤ e) × (e ≤ 8 * length set.now) }
     ensures { result ≡ lent_bit set.now e }
 {
-    let down = (7 - (e - 1) % 8) as u8;
-    (set[(e - 1) / 8] >> down) & 1 == 1
+    (set[(e - 1) / 8] >> (7 - (e - 1) % 8)) & 1 == 1
 }
 
 // Question 12: the bits after event n are zero.
@@ -31,29 +33,7 @@ fn spare_clear(set: &[u8], n: usize) -> bool
     ensures { result ≡ all (λ e. not (lent_bit set.now e))
         (from (n + 1) (8 * length set.now - n)) }
 {
-    let mut e = n + 1;
-    while e <= 8 * set.len() {
-        if lent_bit(set, e) {
-            return false;
-        }
-        e = e + 1;
-    }
-    true
-}
-
-// Wants event e as the latest one of its task, where it is in the set.
-fn want_one(records: &[u8], words: &[u64], want: &mut [u16], e: usize)
-    requires { (1 ≤ e) × (2 * e ≤ length records.now) × (e < table_length) × (length words.now ≡ 64)
-        × (length want.old ≡ tasks)
-        × LatestEvents (λ f. row_bit 64 words.now (f - 1)) (task (decode_all records.now)) e want.old }
-    ensures { LatestEvents (λ f. row_bit 64 words.now (f - 1))
-        (task (decode_all records.now)) (suc e) want.new }
-{
-    if !words::has(words, e) {
-        return;
-    }
-    let t = recording::task(records, e) as usize;
-    want[t] = e as u16;
+    (n + 1..8 * set.len() + 1).all(|e| !lent_bit(set, e))
 }
 
 // Wants the latest event of each task that is in the set.
@@ -64,10 +44,10 @@ fn wanted(records: &[u8], words: &[u64], want: &mut [u16])
         (task (decode_all records.now)) (length (decode_all records.now) + 1)
         want.new }
 {
-    let mut e = 1;
-    while e <= records.len() / 2 {
-        want_one(records, words, want, e);
-        e = e + 1;
+    for e in 1..records.len() / 2 + 1 {
+        if words::has(words, e) {
+            want[recording::task(records, e) as usize] = e as u16;
+        }
     }
 }
 
@@ -108,20 +88,6 @@ fn reach(records: &[u8], words: &[u64], front: &mut [u16])
     );
 }
 
-// Puts event e into the set, where it is in that of the frontier.
-fn put_one(records: &[u8], front: &[u16], words: &mut [u64], e: usize)
-    requires { (1 ≤ e) × (2 * e ≤ length records.now) × (e ≤ 64 * length words.old)
-        × (length front.now ≡ tasks) }
-    ensures { (i : ℕ) → row_bit 64 words.new i ≡ (row_bit 64 words.old i
-        || (eqb (e - 1) i
-        && leb e (get_or front.now (task (decode_all records.now) e) 0))) }
-{
-    if !frontier::contains(records, front, e) {
-        return;
-    }
-    words::put(words, e);
-}
-
 // Puts the events of the frontier's set into an empty one.
 fn put_behind(records: &[u8], front: &[u16], words: &mut [u64])
     requires { (length records.now ≤ records_length) × (length front.now ≡ tasks)
@@ -130,10 +96,10 @@ fn put_behind(records: &[u8], front: &[u16], words: &mut [u64])
         ≡ (ltb i (length (decode_all records.now))
         && leb (suc i) (get_or front.now (task (decode_all records.now) (suc i)) 0)) }
 {
-    let mut e = 1;
-    while e <= records.len() / 2 {
-        put_one(records, front, words, e);
-        e = e + 1;
+    for e in 1..records.len() / 2 + 1 {
+        if frontier::contains(records, front, e) {
+            words::put(words, e);
+        }
     }
 }
 
@@ -164,37 +130,18 @@ fn close_set(records: &[u8], set: &mut [u8]) -> u64
     after - before
 }
 
-// A closure call that leaves the set as it was.
-fn refused(refusal: u64, event: u64) -> model::Closed
-    ensures { result ≡ refused_closed refusal event }
-{
-    model::Closed {
-        refusal,
-        event,
-        added: 0,
-    }
-}
-
 // The closure of a lent event set: questions 11 and 12, then the set is closed in place.
-pub fn close(recording: &[u8], set: &mut [u8]) -> model::Closed
-    ensures answer { result ≡ close recording.now set.old }
+pub fn close(recording: &[u8], set: &mut [u8]) -> Result<u64, Refusal>
+    ensures answer { closed_of result ≡ close recording.now set.old }
     ensures output { set.new ≡ close_out recording.now set.old }
 {
-    let checked = recording::check(recording);
-    if checked.refusal != 0 {
-        return refused(checked.refusal, checked.event);
-    }
+    recording::check(recording)?;
     let n = recording::event_count(recording);
     if set.len() != (n + 7) / 8 {
-        return refused(11, 0);
+        return Err(Question::SetLength.into());
     }
     if !spare_clear(set, n) {
-        return refused(12, 0);
+        return Err(Question::SpareBits.into());
     }
-    let added = close_set(&recording[2..], set);
-    model::Closed {
-        refusal: 0,
-        event: 0,
-        added,
-    }
+    Ok(close_set(&recording[2..], set))
 }

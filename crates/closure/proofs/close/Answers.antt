@@ -6,70 +6,63 @@ use mathlib.Core.Bool.{not}
 use native.Mathlib.Numerals.{add-one}
 use borrow.Author.Rules.{rules}
 use lib.ListN.{length}
-use Rattle.model.specs.Answers.{Outcome}
 use Rattle.model.specs.Lists.{all, from}
 use Rattle.model.specs.Recording.{trace}
 use Rattle.model.specs.EventSet.{set_length, lent_bit}
 use Rattle.model.specs.Calls.Check.{check}
+use Rattle.laws.proofs.Results.{passed_on, is_refused, is_passed}
 use Rattle.laws.proofs.Questions.{check_bytes, check-count, part-trace, part_small, part_accepted}
-use Rattle.closure.specs.Reach.{refused_closed}
 use Rattle.closure.proofs.Answers.{close_unchecked, close-length, close_spare, close_closed}
 use Rattle.closure.proofs.close.Goals as goal
-use Rattle.closure.proofs.close.Goals.{After-event_count-n, After-spare_clear, Else-checked-ne0, Else-set-n}
+use Rattle.closure.proofs.close.Goals.{In_ok-check, After-event_count-n, After-spare_clear, Else-set-n}
 
 -- The recording is accepted.
-accepted : (c : goal.Else-checked-ne0)
-    → let a = c.args in (check a.recording.now).refusal ≡ 0
-accepted c = sym (ap (λ (o : Outcome). o.refusal) c.check-checked.ensures) ∙ c.if-checked-ne0.false
+accepted : (c : goal.In_ok-check) → (check c.args.recording.now).refusal ≡ 0
+accepted c = is_passed c.in_ok-check.field-0 _ c.in_ok-check.ensures
 
 -- Its events are counted.
 counted : (c : goal.After-event_count-n)
-    → let a = c.args in
-    c.event_count-n.result ≡ length (trace a.recording.now)
+    → c.event_count-n.result ≡ length (trace c.args.recording.now)
 counted c = c.event_count-n.ensures.1
-    ∙ sym (check-count _ (accepted (goal.at.After-event_count-n c).Else-checked-ne0))
+    ∙ sym (check-count _ (accepted (goal.at.After-event_count-n c).In_ok-check))
 
 -- The lent set has the length of a set.
 sized : (c : goal.Else-set-n)
-    → let a = c.args in
-    length a.set.now ≡ set_length (length (trace a.recording.now))
+    → length c.args.set.now ≡ set_length (length (trace c.args.recording.now))
 sized c =
-    let a = c.args in
-    let long : length a.set.now ≡ set_length c.event_count-n.result = c.if-set-n.false in
+    let long : length c.args.set.now ≡ set_length c.event_count-n.result = c.if-set-n.false in
     long ∙ ap set_length (counted (goal.at.Else-set-n c).After-event_count-n)
 
 -- The bits after the last event are asked for.
 is-clear : (c : goal.After-spare_clear)
-    → let a = c.args in
-    let n = length (trace a.recording.now) in
-    c.spare_clear.result
-    ≡ all (λ e. not (lent_bit a.set.now e)) (from (suc n) (8 * length a.set.now - n))
+    → let set = c.args.set.now in
+    let n = length (trace c.args.recording.now) in
+    c.spare_clear.result ≡ all (λ e. not (lent_bit set e)) (from (suc n) (8 * length set - n))
 is-clear c =
     rw (add-one c.event_count-n.result, counted (goal.at.After-spare_clear c).After-event_count-n)
     at c.spare_clear.ensures
 
-pub returns-then-checked-ne0 : goal.returns-then-checked-ne0
-returns-then-checked-ne0 c =
+pub returns-in_err-check : goal.returns-in_err-check
+returns-in_err-check c =
     let a = c.args in
-    let q = c.check-checked.ensures in
-    let (x, y) = close_unchecked a.recording.now a.set.now (rw q at c.if-checked-ne0.true) in
+    let q = c.in_err-check.ensures in
+    let (x, y) = close_unchecked a.recording.now a.set.now (is_refused _ _ q) in
     record {
-      answer =
-          c.refused.ensures ∙ ap (λ (o : Outcome). refused_closed o.refusal o.event) q ∙ sym x;
+      answer = rw (passed_on c.from_residual.result _ c.from_residual.ensures.1) (sym (rw (← q) at x));
       output = sym y;
     }
 
 pub event_count-n-requires : goal.event_count-n-requires
-event_count-n-requires c = (check_bytes _ (accepted (goal.at.event_count-n-requires c).Else-checked-ne0)).0
+event_count-n-requires c = (check_bytes _ (accepted (goal.at.event_count-n-requires c).In_ok-check)).0
 
 pub returns-then-set-n : goal.returns-then-set-n
 returns-then-set-n c =
     let a = c.args in
     let size = counted (goal.at.returns-then-set-n c).After-event_count-n in
     let (x, y) =
-    close-length a.recording.now a.set.now (accepted (goal.at.returns-then-set-n c).Else-checked-ne0)
+    close-length a.recording.now a.set.now (accepted (goal.at.returns-then-set-n c).In_ok-check)
     (λ q. c.if-set-n.true (q ∙ ap set_length (sym size))) in
-    record { answer = c.refused-then-set-n.ensures ∙ sym x; output = sym y }
+    record { answer = rw c.into.ensures (sym x); output = sym y }
 
 pub returns-then-not-spare_clear : goal.returns-then-not-spare_clear
 returns-then-not-spare_clear c =
@@ -77,28 +70,28 @@ returns-then-not-spare_clear c =
     let no = sym (is-clear (goal.at.returns-then-not-spare_clear c).After-spare_clear)
     ∙ c.if-not-spare_clear.true in
     let (x, y) = close_spare a.recording.now a.set.now
-    (accepted (goal.at.returns-then-not-spare_clear c).Else-checked-ne0)
+    (accepted (goal.at.returns-then-not-spare_clear c).In_ok-check)
     (sized (goal.at.returns-then-not-spare_clear c).Else-set-n) no in
-    record { answer = c.refused-then-not-spare_clear.ensures ∙ sym x; output = sym y }
+    record { answer = rw c.into-then-not-spare_clear.ensures (sym x); output = sym y }
 
 pub slice_bounds-close_set-count : goal.slice_bounds-close_set-count
 slice_bounds-close_set-count c =
-    (check_bytes _ (accepted (goal.at.slice_bounds-close_set-count c).Else-checked-ne0)).0
+    (check_bytes _ (accepted (goal.at.slice_bounds-close_set-count c).In_ok-check)).0
 
 pub slice_bounds-close_set-start : goal.slice_bounds-close_set-start
 slice_bounds-close_set-start c =
-    let h = (check_bytes _ (accepted (goal.at.slice_bounds-close_set-start c).Else-checked-ne0)).0 in
+    let h = (check_bytes _ (accepted (goal.at.slice_bounds-close_set-start c).In_ok-check)).0 in
     search rules
 
-pub close_set-added-requires : goal.close_set-added-requires
-close_set-added-requires c =
+pub close_set-requires : goal.close_set-requires
+close_set-requires c =
     let b = c.args.recording.now in
-    let ok = accepted (goal.at.close_set-added-requires c).Else-checked-ne0 in
-    let yes = sym (is-clear (goal.at.close_set-added-requires c).After-spare_clear)
+    let ok = accepted (goal.at.close_set-requires c).In_ok-check in
+    let yes = sym (is-clear (goal.at.close_set-requires c).After-spare_clear)
     ∙ c.if-not-spare_clear.false in (
       part_small b ok (c.type_inv.recording 1).fits,
       part_accepted b ok,
-      rw (part-trace b) (sized (goal.at.close_set-added-requires c).Else-set-n),
+      rw (part-trace b) (sized (goal.at.close_set-requires c).Else-set-n),
       rw (part-trace b, yes) tt,
     )
 
@@ -107,10 +100,10 @@ returns c =
     let a = c.args in
     let b = a.recording.now in
     let yes = sym (is-clear (goal.at.returns c).After-spare_clear) ∙ c.if-not-spare_clear.false in
-    let (x, y) = close_closed b a.set.now (accepted (goal.at.returns c).Else-checked-ne0)
+    let (x, y) = close_closed b a.set.now (accepted (goal.at.returns c).In_ok-check)
     (sized (goal.at.returns c).Else-set-n) yes in
-    let added = rw (part-trace b) at c.close_set-added.ensures.answer in
-    let bytes = rw (part-trace b) at c.close_set-added.ensures.output in
+    let added = rw (part-trace b) at c.close_set.ensures.answer in
+    let bytes = rw (part-trace b) at c.close_set.ensures.output in
     record {
       answer =
           ap (λ (m : ℕ). record { refusal = 0; event = 0; added = m }) added ∙ sym x;

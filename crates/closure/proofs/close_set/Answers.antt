@@ -10,10 +10,10 @@ use Rattle.model.specs.Closure.{closure}
 use Rattle.laws.proofs.Trace.{decode_all-length}
 use Rattle.closure.proofs.Steps.{count_lent, members_grow, count_closed, bytes_closed}
 use Rattle.closure.proofs.close_set.Goals as goal
-use Rattle.closure.proofs.close_set.Goals.{After-slice_known-2-1}
+use Rattle.closure.proofs.close_set.Goals.{After-count-after}
 
 -- The lent set's events are counted,
-before : (c : goal.After-slice_known-2-1)
+before : (c : goal.After-count-after)
     → let σ = decode_all c.args.records.now in
     c.count-before.result ≡ length (members σ (lent_set σ c.args.set.now))
 before c =
@@ -24,7 +24,7 @@ before c =
     c.count-before.ensures ∙ count_lent σ c.args.set.now p.new.words p.ensures c.requires.3 _ small
 
 -- and those of its closure.
-after : (c : goal.After-slice_known-2-1)
+after : (c : goal.After-count-after)
     → let σ = decode_all c.args.records.now in
     c.count-after.result ≡ length (members σ (closure σ (lent_set σ c.args.set.now)))
 after c =
@@ -61,8 +61,8 @@ overflow_sub-result c =
     let grow = members_grow (decode_all c.args.records.now) c.args.set.now in
     omega (
       arith,
-      before (goal.at.overflow_sub-result c).After-slice_known-2-1,
-      after (goal.at.overflow_sub-result c).After-slice_known-2-1,
+      before (goal.at.overflow_sub-result c).After-count-after,
+      after (goal.at.overflow_sub-result c).After-count-after,
       grow,
     )
 
@@ -71,10 +71,10 @@ returns c =
     let set = c.args.set.now in
     let bytes = c.unpack.new.set in
     let long : length bytes ≡ length set = c.unpack.auto.set in record {
-      answer = ap₂ ◌-◌ (after (goal.at.returns c).After-slice_known-2-1)
-          (before (goal.at.returns c).After-slice_known-2-1);
+      answer = ap₂ ◌-◌ (after (goal.at.returns c).After-count-after)
+          (before (goal.at.returns c).After-count-after);
       output = bytes_closed (decode_all c.args.records.now) set c.pack.new.words c.pack.ensures
           c.reach.new.front c.put_behind.new.words c.reach.ensures
-          c.put_behind.ensures bytes (long ∙ c.requires.2) (λ k. (c.slice_known-2-1.given k).fits)
+          c.put_behind.ensures bytes (long ∙ c.requires.2) (λ k. (c.type_inv.set k).fits)
           (λ i h. c.unpack.ensures i (omega (arith, long)));
     }

@@ -1,7 +1,7 @@
 -- `closure::put_behind` meets its contract: the events passed are put in where they are behind the frontier.
 -- Assumes nothing.
 use Prim.Native.Nat.{◌-◌}
-use mathlib.Core.Path.{◌≡◌, ap}
+use mathlib.Core.Path.{◌≡◌}
 use native.Mathlib.Omega.{arith}
 use lib.ListN.{length}
 use Rattle.model.specs.Recording.{decode_all}
@@ -10,17 +10,10 @@ use Rattle.closure.proofs.Sets.{row-none}
 use Rattle.closure.proofs.put_behind.Goals as goal
 
 pub loop-e-init : goal.loop-e-init
-loop-e-init c = (
-  omega arith,
-  omega arith,
-  ap length c.requires.2,
-  λ i. row-none c.args.words.now i _ c.requires.2,
-)
+loop-e-init c = λ i. row-none c.args.words.now i _ c.requires.2
 
 pub returns : goal.returns
 returns c =
-    let k = c.loop-e in
-    let σ = decode_all c.args.records.now in
-    let last : k.e - 1 ≡ length σ =
-    omega (arith, c.loop-e-test.false, decode_all-length c.args.records.now) in
-    λ i. rw last at (k.invariant.3 i)
+    let records = c.args.records.now in
+    let last : c.loop-e.e - 1 ≡ length (decode_all records) = omega (arith, decode_all-length records) in
+    λ i. rw last at (c.loop-e.invariant i)

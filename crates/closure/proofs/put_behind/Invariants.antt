@@ -1,10 +1,10 @@
 -- `closure::put_behind` meets its contract: the events passed are put in where they are behind the frontier.
 -- Assumes nothing.
-use Prim.Native.Nat.{ℕ, suc, ◌+◌, ◌-◌, ◌/◌, ◌≤◌}
+use Prim.Native.Nat.{ℕ, suc, ◌-◌}
 use mathlib.Core.Path.{◌≡◌}
 use mathlib.Core.Bool.{◌&&◌}
 use lib.Dec.{leb, ltb}
-use lib.ListN.{length, get_or}
+use lib.ListN.{get_or}
 use Rattle.model.specs.Trace.{task}
 use Rattle.model.specs.Recording.{decode_all}
 use Rattle.laws.specs.BitRow.{row_bit}
@@ -12,9 +12,5 @@ use Rattle.closure.proofs.put_behind.Given as goal
 
 abbrev pub invariant-loop-e : goal.invariant-loop-e
 invariant-loop-e l =
-    (1 ≤ l.e) × (l.e ≤ length l.records / 2 + 1) × (length l.words ≡ 64)
-    × ((i : ℕ) → row_bit 64 l.words i
-    ≡ (ltb i (l.e - 1) && leb (suc i) (get_or l.front (task (decode_all l.records) (suc i)) 0)))
-
-abbrev pub decreases-loop-e : goal.decreases-loop-e
-decreases-loop-e l = length l.records / 2 + 1 - l.e
+    (i : ℕ) → row_bit 64 l.words i
+    ≡ (ltb i (l.e - 1) && leb (suc i) (get_or l.front (task (decode_all l.records) (suc i)) 0))

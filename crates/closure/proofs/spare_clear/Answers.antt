@@ -1,21 +1,18 @@
--- `closure::spare_clear` meets its contract: what is left to ask decides. Assumes nothing.
-use Prim.Native.Nat.{◌*◌}
-use mathlib.Core.Path.{sym, ◌∙◌}
-use mathlib.Core.Bool.{not}
-use native.Mathlib.Omega.{arith}
-use lib.ListN.{length}
+-- `closure::spare_clear` meets its contract: each of these bits is asked for. Assumes nothing.
+use Rattle.std.proofs.Common.{◌∙◌, ℕ, ◌+◌, ◌-◌, ◌*◌, not, length, refl, rules, arith}
+use Rattle.std.proofs.lemmas.Iterator.{YieldsList-from_range}
+use Rattle.std.proofs.lemmas.Iterator.Search.{all_from_yields_List}
+use borrow.Author.Tests.{tests}
 use Rattle.model.specs.EventSet.{lent_bit}
-use Rattle.closure.proofs.Sets.{all_from}
+use Rattle.closure.proofs.Sets.{all-range}
 use Rattle.closure.proofs.spare_clear.Goals as goal
 
-pub loop-e-preserved : goal.loop-e-preserved
-loop-e-preserved c =
-    let k = c.loop-e in
+pub returns : goal.returns
+returns c =
+    let n = c.args.n in
     let set = c.args.set.now in
-    let no = sym c.lent_bit.ensures ∙ c.if-lent_bit.false in
-    let inside = c.loop-e-test.true in
-    let more = all_from (λ e. not (lent_bit set e)) k.e (8 * length set) inside in (
-      omega arith,
-      omega (arith, c.loop-e-test.true),
-      rw (more, no) at k.invariant.2,
-    )
+    let spare = 8 * length set - n in
+    all_from_yields_List (λ (e : ℕ). not (lent_bit set e)) _ _ _ c.all.ensures.ran
+    (YieldsList-from_range (n + 1) (8 * length set + 1) spare refl (omega arith))
+    (λ x b q k. search (rules, tests))
+    ∙ all-range (λ (e : ℕ). not (lent_bit set e)) (n + 1) spare

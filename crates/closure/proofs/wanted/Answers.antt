@@ -9,8 +9,6 @@ use Rattle.closure.proofs.wanted.Goals as goal
 
 pub returns : goal.returns
 returns c =
-    let k = c.loop-e in
-    let σ = decode_all c.args.records.now in
-    let last : k.e ≡ length σ + 1 =
-    omega (arith, c.loop-e-test.false, decode_all-length c.args.records.now) in
-    rw last at k.invariant.3
+    let records = c.args.records.now in
+    let last : c.loop-e.e ≡ length (decode_all records) + 1 = omega (arith, decode_all-length records) in
+    rw last at c.loop-e.invariant
