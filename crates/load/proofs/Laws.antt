@@ -1,6 +1,6 @@
--- The depth of a lock after one event more of accepted records, the count of the events after which it is
--- above 0, and the cases of the rounding. Assumes nothing.
-use Prim.Native.Nat.{ℕ, ◌+◌, ◌-◌, ◌*◌, ◌/◌, ◌%◌, ◌≤◌, ◌<◌}
+-- The depth of a lock after one event more of accepted records, and the count of the events after which it is
+-- above 0. Assumes nothing.
+use Prim.Native.Nat.{ℕ, ◌+◌, ◌-◌, ◌≤◌, ◌<◌}
 use mathlib.Core.Path.{◌≡◌, refl, sym, ◌∙◌}
 use mathlib.Core.Logic.{◌≢◌}
 use mathlib.Core.Bool.{cond}
@@ -8,10 +8,10 @@ use native.Mathlib.Numerals.{add-one}
 use native.Mathlib.Omega.{arith}
 use lib.Dec.{ltb}
 use lib.ListN.{length}
-use borrow.Author.Tests.{eq-eqb, ne_eqb, lt-ltb, le-ltb}
+use borrow.Author.Tests.{lt-ltb, le-ltb}
 use Rattle.model.specs.Lists.{filter, from}
 use Rattle.model.specs.Trace.{Trace, locks, at, object}
-use Rattle.model.specs.Calls.Load.{is_held_after, percent}
+use Rattle.model.specs.Calls.Load.{is_held_after}
 use Rattle.laws.specs.Walked.{LockDepth}
 use Rattle.laws.proofs.Filters.{filter_counts}
 use Rattle.laws.proofs.Operations.{enters_is, leaves_is, accesses_is}
@@ -86,38 +86,3 @@ module _ (σ : Trace) (e l d : ℕ) (i : 1 ≤ e) (z : LockDepth σ (e + 1) l d)
   -- and another does not.
   pub uncounted : (n : ℕ) → n ≡ held_before σ l e → d ≡ 0 → n ≡ held_before σ l (e + 1)
   uncounted n q free = omega (arith, rw (le-ltb 0 d (omega arith)) at step)
-
--- ---- rounding
-
--- Without events the per cent is 0.
-pub percent-none : (h n : ℕ) → n ≡ 0 → 0 ≡ percent h n
-unfolding percent
-percent-none h n none = rw (eq-eqb n 0 none)
-
-module _ (h n : ℕ) (some : n ≢ 0) where
-  -- It is the quotient where the rest is below the half,
-  pub percent_below : 2 * (100 * h % n) < n → 100 * h / n ≡ percent h n
-  unfolding percent
-  percent_below a = rw (ne_eqb n 0 some, lt-ltb (2 * (100 * h % n)) n a)
-
-  -- and the next number where it is above.
-  pub percent_above : n < 2 * (100 * h % n) → 100 * h / n + 1 ≡ percent h n
-  unfolding percent
-  percent_above a =
-      let r = 100 * h % n in
-      rw (ne_eqb n 0 some, le-ltb (2 * r) n (omega arith), lt-ltb n (2 * r) a)
-
-  module _ (least : n ≤ 2 * (100 * h % n)) (most : 2 * (100 * h % n) ≤ n) where
-    -- At the half it is the quotient, if that is even,
-    pub percent_even : 100 * h / n % 2 ≡ 0 → 100 * h / n ≡ percent h n
-    unfolding percent
-    percent_even e =
-        let r = 100 * h % n in
-        rw (ne_eqb n 0 some, le-ltb (2 * r) n least, le-ltb n (2 * r) most, eq-eqb (100 * h / n % 2) 0 e)
-
-    -- and else the next number.
-    pub percent_odd : 100 * h / n % 2 ≢ 0 → 100 * h / n + 1 ≡ percent h n
-    unfolding percent
-    percent_odd d =
-        let r = 100 * h % n in
-        rw (ne_eqb n 0 some, le-ltb (2 * r) n least, le-ltb n (2 * r) most, ne_eqb (100 * h / n % 2) 0 d)

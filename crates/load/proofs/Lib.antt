@@ -1,2 +1,2 @@
--- Laws of a lock's holder, of counting and of rounding; each function's proof is in a folder of its own.
+-- Laws of a lock's depth and of counting; each function's proof is in a folder of its own.
 pub mod Laws

@@ -50,6 +50,7 @@ fn count_held(records: &[u8], lock: u64) -> u64
 
 // 100 × h / n, rounded to nearest, halves to even; 0 for no events. The rest of the division decides between
 // the quotient and the next number.
+#[tactic(auto, unfolding(model::specs::Calls::Load::percent))]
 fn percentage(h: u64, n: u64) -> u64
     requires { (h < table_length) × (n < table_length) }
     ensures { result ≡ percent h n }
