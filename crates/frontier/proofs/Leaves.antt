@@ -15,7 +15,19 @@ use Rattle.laws.specs.Frontier.{raised, wanted}
 use Rattle.laws.proofs.Operations.{is_read_op, is_join-none, is_acquire-none}
 use Rattle.laws.proofs.Awaited.{awaited-none, awaited_below}
 use Rattle.laws.proofs.Marks.{WithMark, marked_uncounted, marked_outer}
+use Rattle.recording.specs.declared.Op.{Op}
+use Rattle.recording.specs.declared.Op.TheVariants.{Read, Write, Acquire, Release}
+use Rattle.recording.specs.Asked.{code}
 use Rattle.frontier.specs.Visit.{wanted_earlier, latest_with, wanted_with}
+
+-- ---- operations
+
+-- The number of one that is no acquire is not an acquire's.
+pub code_other : (o : Op) → o ≢ Acquire → code o ≢ 2
+code_other Read d = omega arith
+code_other Write d = omega arith
+code_other Acquire d = absurd (d refl)
+code_other Release d = omega arith
 
 -- ---- by what the event is
 

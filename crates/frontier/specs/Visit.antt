@@ -1,7 +1,7 @@
 -- Visiting one event: what it adds to the wanted events, and to the latest acquires. The tables that it needs
 -- have the relations of each event, and for the match of a record that does not count its own number.
-use Rattle.std.specs.Prelude.{ℕ, suc, ◌≤◌, min, ◌≡◌, cond, List, eqb, length, get_or}
-use Rattle.model.specs.Trace.{Trace, task, object, is_acquire}
+use Rattle.std.specs.Prelude.{ℕ, suc, ◌<◌, ◌≤◌, min, ◌≡◌, cond, List, Option, Some, None, eqb, length, get_or}
+use Rattle.model.specs.Trace.{Trace, tasks, task, object, is_acquire}
 use Rattle.model.specs.Relations.{predecessor}
 use Rattle.laws.specs.Order.{awaited}
 use Rattle.laws.specs.Walked.{Starts}
@@ -39,3 +39,8 @@ wanted_with σ want latest f =
 -- The latest acquires with event f.
 unfoldable pub latest_with : Trace → List ℕ → ℕ → List ℕ
 latest_with σ latest f = cond (is_acquire σ f) (raised latest (object σ f) f) latest
+
+-- The first task whose wanted event the frontier has not reached, or that there is none.
+abbrev pub Unreached : List ℕ → List ℕ → Option ℕ → Type 0
+Unreached front want (Some t) = (t < tasks) × (get_or front t 0 < get_or want t 0)
+Unreached front want None = (t : ℕ) → t < tasks → get_or want t 0 ≤ get_or front t 0

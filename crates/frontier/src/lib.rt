@@ -12,27 +12,17 @@ ghost use Rattle.laws.specs.Sizes.{records_length, order_length};
 ghost use Rattle.laws.specs.Order.{start_in};
 ghost use Rattle.laws.specs.Walked.{Starts};
 ghost use Rattle.laws.specs.Frontier.{Settled, raised, wanted, Advanced, Turned};
-ghost use Rattle.frontier.specs.Visit.{Reading, Needed, latest_with, wanted_with};
-ghost use Rattle.frontier.specs.Visit.{wanted_earlier};
+ghost use Rattle.frontier.specs.Visit.{Reading, Needed, wanted_earlier, latest_with, wanted_with};
+ghost use Rattle.frontier.specs.Visit.{Unreached};
+
+use recording::Op;
 
 // Raises entry i of a table of events, one for each task or each lock, to event e, where e is later.
 fn raise(events: &mut [u16], i: usize, e: u16)
     requires { i < length events.old }
     ensures { events.new ≡ raised events.old i e }
 {
-    if events[i] < e {
-        events[i] = e;
-    }
-}
-
-// The earlier of events a and b.
-fn earlier(a: u16, b: u16) -> u16
-    ensures { result ≡ min a b }
-{
-    if a < b {
-        return a;
-    }
-    b
+    events[i] = events[i].max(e);
 }
 
 // Wants, in the task of event e, what the table has as its match: of an outer acquire its match.
@@ -76,7 +66,7 @@ fn visit_acquire(records: &[u8], matches: &[u16], want: &mut [u16], latest: &mut
     if top == 0 {
         return;
     }
-    want_match(records, matches, want, earlier(top, f));
+    want_match(records, matches, want, top.min(f));
 }
 
 // Visits event f, which wants what it awaits, or is visited as an outer acquire. A start or an inner acquire,
@@ -97,14 +87,14 @@ fn visit(
     ensures latest { latest.new
         ≡ latest_with (decode_all records.now) latest.old f }
 {
-    if recording::opcode(records, f as usize) != 2 {
-        want_event(records, want, writers[f as usize]);
-        return;
+    match recording::operation(records, f as usize) {
+        Op::Acquire => {
+            if matches[f as usize] != f {
+                visit_acquire(records, matches, want, latest, f);
+            }
+        }
+        _ => want_event(records, want, writers[f as usize]),
     }
-    if matches[f as usize] == f {
-        return;
-    }
-    visit_acquire(records, matches, want, latest, f);
 }
 
 // Where the walk of task t ends, whose frontier was at event `old`: there, or for a task without events in
@@ -153,6 +143,17 @@ fn turn(
     }
 }
 
+// The first task whose wanted event the frontier has not reached, if any.
+fn unreached(front: &[u16], want: &[u16]) -> Option<usize>
+    requires { (length front.now ≡ tasks) × (length want.now ≡ tasks) }
+    ensures { Unreached front.now want.now result }
+{
+    front
+        .iter()
+        .zip(want.iter())
+        .position(|(at, wanted)| at < wanted)
+}
+
 // Advances the frontier to that of the smallest closed set with the wanted events, task by task, until none
 // has more to reach. A closed set is extended the same way: with further events wanted.
 pub fn advance(
@@ -170,23 +171,17 @@ pub fn advance(
     ensures { Advanced (decode_all records.now) want.old front.new
         latest.new × (want.new ≡ front.new) }
 {
-    let mut t = 0;
-    while t < 16 {
-        if front[t] < want[t] {
-            turn(
-                records,
-                predecessors,
-                writers,
-                matches,
-                front,
-                want,
-                latest,
-                t,
-            );
-            t = 0;
-        } else {
-            t = t + 1;
-        }
+    while let Some(t) = unreached(front, want) {
+        turn(
+            records,
+            predecessors,
+            writers,
+            matches,
+            front,
+            want,
+            latest,
+            t,
+        );
     }
 }
 

@@ -1,5 +1,5 @@
--- `frontier::advance` meets its contract: each turn brings the frontier on, and the tasks before t have
--- nothing more to reach. Assumes nothing.
+-- `frontier::advance` meets its contract: each turn brings the frontier on, until no task has more to reach.
+-- Assumes nothing.
 use native.Mathlib.Omega.{arith}
 use Rattle.model.specs.Recording.{decode_all}
 use Rattle.laws.proofs.Trace.{decode_all-length}
@@ -7,19 +7,16 @@ use Rattle.laws.proofs.Questions.{events_sound}
 use Rattle.frontier.proofs.Rounds.{round_end, round_less}
 use Rattle.frontier.proofs.advance.Goals as goal
 
-pub loop-t-smaller-then-front-t : goal.loop-t-smaller-then-front-t
-loop-t-smaller-then-front-t c =
+pub loop-t-smaller : goal.loop-t-smaller
+loop-t-smaller c =
     let k = c.loop-t in
     let b = c.args.records.now in
-    round_less (decode_all b) c.args.want.now k.front k.want k.latest k.t k.invariant
-    (omega (arith, c.requires.0, decode_all-length b)) c.loop-t-test.true
-    c.if-front-t.true
-    _ _ _
-    c.turn.ensures
+    round_less (decode_all b) c.args.want.now k.front k.want k.latest k.invariant
+    (omega (arith, c.requires.0, decode_all-length b)) _ c.in-Some.ensures _ _ _ c.turn.ensures
 
 pub returns : goal.returns
 returns c =
     let k = c.loop-t in
     let b = c.args.records.now in
-    round_end (decode_all b) c.args.want.now k.front k.want k.latest k.t k.invariant
-    (events_sound b c.requires.1) c.loop-t-test.false
+    round_end (decode_all b) c.args.want.now k.front k.want k.latest k.invariant
+    (events_sound b c.requires.1) c.in_default.ensures

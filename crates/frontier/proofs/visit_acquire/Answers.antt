@@ -14,8 +14,8 @@ returns-then-top-eq0 c =
 
 pub want_match-requires : goal.want_match-requires
 want_match-requires c =
-    let event : (1 ≤ c.earlier.result) × (c.earlier.result ≤ c.args.f) =
-    omega (arith, c.earlier.ensures, c.if-top-eq0.false, c.requires.0) in (
+    let event : (1 ≤ c.min.result) × (c.min.result ≤ c.args.f) =
+    omega (arith, c.min.ensures, c.if-top-eq0.false, c.requires.0) in (
       event.0,
       omega (arith, event, c.requires.1),
       omega (arith, event, c.requires.2),
@@ -27,6 +27,6 @@ pub returns : goal.returns
 returns c =
     rw (← c.object-l.ensures.1) (record {
       wanted = c.want_match.ensures
-          ∙ sym (wanted_earlier_some _ _ _ _ c.if-top-eq0.false c.earlier.ensures);
+          ∙ sym (wanted_earlier_some _ _ _ _ c.if-top-eq0.false c.min.ensures);
       latest = c.raise.ensures;
     })
