@@ -2,13 +2,17 @@
 use Prim.Native.Nat.{ℕ}
 use mathlib.Core.Path.{◌≡◌}
 use mathlib.Core.Logic.{◌≢◌}
-use mathlib.Core.Bool.{true, false, ◌&&◌}
+use mathlib.Core.Bool.{false, ◌&&◌}
 use mathlib.Core.List.{List}
 use native.Mathlib.Omega.{arith}
-use lib.Dec.{eqb, leb}
+use Rattle.std.proofs.Common.{ok_or}
+use lib.Dec.{leb}
 use lib.ListN.{length}
 use borrow.Author.Tests.{eq-eqb, ne_eqb, le-leb}
 use Rattle.model.specs.Bytes.{encode, numbers, is_whole}
+use Rattle.model.specs.declared.Question.TheVariants.{Pattern}
+use Rattle.model.specs.Refused.{refusal}
+use Rattle.model.specs.Answers.{verdict_of}
 use Rattle.model.specs.Recording.{trace}
 use Rattle.model.specs.Pattern.{is_pattern, is_deadlock}
 use Rattle.model.specs.Calls.Questions.{lends_pattern, fits_output}
@@ -21,25 +25,6 @@ use Rattle.deadlock.specs.Judged.{judged}
 use Rattle.deadlock.specs.Delivered.{delivered, delivered_out, witness_from, witness_out_from}
 
 module _ (b p : List ℕ) where
-  -- What is decided says whether the bytes are a pattern,
-  judged-zero : judged (trace b) p ≡ 0 → (is_whole p && is_pattern (trace b) (numbers p)) ≡ false
-  unfolding judged
-  judged-zero q =
-      decided (is_whole p && is_pattern (trace b) (numbers p))
-      (λ y. absurd (decided (is_deadlock (trace b) (numbers p)) (λ z. omega (arith, rw (y, z) at q))
-      (λ z. omega (arith, rw (y, z) at q)))) (λ n. n)
-
-  judged_some : judged (trace b) p ≢ 0 → (is_whole p && is_pattern (trace b) (numbers p)) ≡ true
-  unfolding judged
-  judged_some d =
-      decided (is_whole p && is_pattern (trace b) (numbers p)) (λ y. y) (λ n. absurd (d (rw n)))
-
-  -- and its verdict.
-  judged_deadlock : judged (trace b) p ≢ 0 → eqb (judged (trace b) p) 2 ≡ is_deadlock (trace b) (numbers p)
-  unfolding judged
-  judged_deadlock d =
-      rw (judged_some d) (decided (is_deadlock (trace b) (numbers p)) (λ y. rw y) (λ n. rw n))
-
   -- ---- the verdict
 
   -- A recording that is refused.
@@ -48,18 +33,15 @@ module _ (b p : List ℕ) where
   unfolding verdict verdict_refusal
   verdict_unchecked d = rw (ne_eqb (check b).refusal 0 d, ne_eqb (check b).refusal 0 d)
 
-  module _ (c : (check b).refusal ≡ 0) where
-    -- 10: no pattern.
-    pub verdict-none : judged (trace b) p ≡ 0
-        → verdict b p ≡ record { refusal = 10; event = 0; deadlock = false }
-    unfolding verdict verdict_refusal lends_pattern
-    verdict-none q = rw (eq-eqb (check b).refusal 0 c, judged-zero q)
-
-    -- The verdict of a pattern.
-    pub verdict_some : judged (trace b) p ≢ 0
-        → verdict b p ≡ record { refusal = 0; event = 0; deadlock = eqb (judged (trace b) p) 2 }
-    unfolding verdict verdict_refusal lends_pattern
-    verdict_some d = rw (eq-eqb (check b).refusal 0 c, judged_some d, judged_deadlock d)
+  -- Of an accepted one what is decided of the bytes.
+  pub verdict_accepted : (check b).refusal ≡ 0
+      → verdict_of (ok_or (judged (trace b) p) (refusal Pattern 0)) ≡ verdict b p
+  unfolding verdict verdict_refusal lends_pattern judged
+  verdict_accepted c =
+      let y = eq-eqb (check b).refusal 0 c in
+      decided (is_whole p && is_pattern (trace b) (numbers p))
+      (λ w. decided (is_deadlock (trace b) (numbers p)) (λ d. rw (y, w, d)) (λ n. rw (y, w, n)))
+      (λ n. rw (y, n))
 
   -- ---- the witness
 

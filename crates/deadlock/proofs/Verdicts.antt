@@ -5,6 +5,8 @@ use mathlib.Core.Path.{◌≡◌}
 use mathlib.Core.Bool.{Bool, true, false, cond, not, ◌&&◌}
 use mathlib.Core.List.{List}
 use native.Mathlib.Numerals.{add-one}
+use Rattle.std.specs.Prelude.{Some, None}
+use Rattle.model.specs.declared.Verdict.TheVariants.{Not, Deadlock}
 use lib.Dec.{leb}
 use lib.ListN.{length, get_or, take}
 use lib.Seq.{take-suc}
@@ -33,14 +35,15 @@ module _ (σ : Trace) (ns : List ℕ) (i : ℕ) (inside : i < length ns) where
 
 module _ (σ : Trace) (p : List ℕ) where
   -- Bytes that are no pattern.
-  pub judged-none : (is_whole p && is_pattern σ (numbers p)) ≡ false → 0 ≡ judged σ p
+  pub judged-none : (is_whole p && is_pattern σ (numbers p)) ≡ false → judged σ p ≡ None
   unfolding judged
   judged-none n = rw n
 
   module _ (y : (is_whole p && is_pattern σ (numbers p)) ≡ true) where
     -- The frontier of its predecessors decides.
     pub judged-verdict : (front latest : List ℕ) (v : Bool) → Before σ (numbers p) front latest
-        → v ≡ all (λ e. not (leb e (get_or front (task σ e) 0))) (numbers p) → cond v 2 1 ≡ judged σ p
+        → v ≡ all (λ e. not (leb e (get_or front (task σ e) 0))) (numbers p)
+        → judged σ p ≡ Some (cond v Deadlock Not)
     unfolding judged
     judged-verdict front latest v z q =
         rw (y, q, before_deadlock σ (numbers p) front latest z (lent_events σ p y))

@@ -1,7 +1,9 @@
--- The table that question 10 reads and its test of each number, what is decided of a lent pattern, as one
--- number, and the events in the set of a frontier.
+-- The table that question 10 reads and its test of each number, what is decided of a lent pattern, and the
+-- events in the set of a frontier.
 use Rattle.std.specs.Prelude.{ℕ, ◌+◌, ◌-◌, ◌≤◌, ◌≡◌, Bool, cond, ◌&&◌, List, [], ◌∷◌, leb, ltb, length}
-use Rattle.std.specs.Prelude.{get_or}
+use Rattle.std.specs.Prelude.{get_or, Option, Some, None}
+use Rattle.model.specs.declared.Verdict.{Verdict}
+use Rattle.model.specs.declared.Verdict.TheVariants.{Not, Deadlock}
 use Rattle.model.specs.Lists.{filter, from}
 use Rattle.model.specs.Bytes.{numbers, is_whole}
 use Rattle.model.specs.Trace.{Trace, tasks, task, is_event}
@@ -20,10 +22,11 @@ pub record Holding (σ : Trace) (holding : List ℕ) : Type 0 where
 unfoldable pub joins : Trace → Chain → ℕ → Bool
 joins σ c e = is_event σ e && ltb c.first e && fits (signature σ) c e
 
--- What is decided of the bytes of a pattern: 0 where they are none (question 10 is answered "no"), 1 for the
--- verdict "not", 2 for deadlock.
-unfoldable pub judged : Trace → List ℕ → ℕ
-judged σ p = cond (is_whole p && is_pattern σ (numbers p)) (cond (is_deadlock σ (numbers p)) 2 1) 0
+-- What is decided of the bytes of a pattern: its verdict, or none where they are no pattern (question 10 is
+-- answered "no").
+unfoldable pub judged : Trace → List ℕ → Option Verdict
+judged σ p =
+    cond (is_whole p && is_pattern σ (numbers p)) (Some (cond (is_deadlock σ (numbers p)) Deadlock Not)) None
 
 -- The frontier of the closure of the predecessors of the events of p.
 pub record Reached (σ : Trace) (p front : List ℕ) : Type 0 where

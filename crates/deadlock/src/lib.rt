@@ -3,7 +3,7 @@
 #![tactic(auto)]
 
 ghost use Rattle.std.specs.Prelude.{◌+◌, ◌*◌, ◌/◌, ◌^◌, ◌<◌, ◌≤◌, ◌≡◌, not, ◌&&◌, [], T, leb, length, get_or};
-ghost use Rattle.std.specs.Prelude.{drop, replicate};
+ghost use Rattle.std.specs.Prelude.{drop, replicate, Some};
 ghost use Rattle.std.specs.Int.Bits.{bit_or};
 ghost use Rattle.std.proofs.lemmas.List.Edits.{sets};
 ghost use Rattle.model.specs.Lists.{all, has_bit};
@@ -16,12 +16,16 @@ ghost use Rattle.model.specs.Calls.Check.{check_events};
 ghost use Rattle.model.specs.Calls.Verdict.{verdict};
 ghost use Rattle.model.specs.Calls.Witness.{witness, witness_out};
 ghost use Rattle.laws.specs.Sizes.{records_length, table_length};
-ghost use Rattle.laws.specs.Answered.{refused_witness};
+ghost use Rattle.model.specs.declared.Verdict.TheVariants.{Deadlock};
+ghost use Rattle.model.specs.Answers.{verdict_of, witness_of};
 ghost use Rattle.laws.specs.Chain.{signature, start, fits, completing, chain_of};
 ghost use Rattle.laws.specs.Frontier.{Before};
 ghost use Rattle.frontier.specs.Visit.{Needed};
 ghost use Rattle.deadlock.specs.Judged.{Holding, joins, judged, Reached, behind_at, behind};
 ghost use Rattle.deadlock.specs.Delivered.{delivered, delivered_out, witness_from, witness_out_from};
+
+use model::{Question, Refusal, Verdict};
+use recording::Op;
 
 // The lock of the acquire e is in the mask.
 pub fn lock_in_mask(records: &[u8], mask: u64, e: usize) -> bool
@@ -47,14 +51,13 @@ pub fn is_acquire(records: &[u8], mask: u64, e: usize) -> bool
         × ((check_events (decode_all records.now)).refusal ≡ 0) × (mask ≡ held (decode_all records.now) e) }
     ensures { result ≡ is_acquire (decode_all records.now) e }
 {
-    if recording::opcode(records, e) != 2 {
-        return false;
+    match recording::operation(records, e) {
+        Op::Acquire => {
+            let l = recording::object(records, e) as u64;
+            l < 64 && !recording::in_mask(mask, l)
+        }
+        _ => false,
     }
-    let l = recording::object(records, e) as u64;
-    if 64 <= l {
-        return false;
-    }
-    !recording::in_mask(mask, l)
 }
 
 // The number e is that of an outer acquire, with which a pattern may begin.
@@ -141,16 +144,14 @@ fn completes(records: &[u8], holding: &[u64], pattern: &[u8], a: usize) -> bool
     let mut last = a;
     let mut tasks = with_task(records, 0, a);
     let mut guards = held;
-    let mut i = 1;
-    while i < pattern.len() / 2 {
+    for i in 1..pattern.len() / 2 {
         let e = recording::number(pattern, i) as usize;
         if !joins(records, holding, a, last, tasks, guards, e) {
             return false;
         }
         last = e;
         tasks = with_task(records, tasks, e);
-        guards = guards | holding[e];
-        i = i + 1;
+        guards |= holding[e];
     }
     lock_in_mask(records, held, last)
 }
@@ -196,8 +197,7 @@ fn reach(
     ensures { Before (decode_all records.now) (numbers pattern.now)
         front.new latest.new }
 {
-    let mut i = 0;
-    while i < pattern.len() / 2 {
+    for i in 0..pattern.len() / 2 {
         let e = recording::number(pattern, i) as usize;
         frontier::extend(
             records,
@@ -209,7 +209,6 @@ fn reach(
             latest,
             e,
         );
-        i = i + 1;
     }
 }
 
@@ -221,18 +220,16 @@ fn avoids(records: &[u8], pattern: &[u8], front: &[u16]) -> bool
         (λ e. not (leb e (get_or front.now (task (decode_all records.now) e) 0)))
         (numbers pattern.now) }
 {
-    let mut i = 0;
-    while i < pattern.len() / 2 {
+    for i in 0..pattern.len() / 2 {
         if frontier::contains(records, front, recording::number(pattern, i) as usize) {
             return false;
         }
-        i = i + 1;
     }
     true
 }
 
-// Decides the lent bytes: 0 where they are no pattern, 1 for "not", 2 for deadlock. Of a pattern the frontier
-// becomes that of the closure of its events' predecessors.
+// Decides the lent bytes: no verdict where they are no pattern. Of a pattern the frontier becomes that of the
+// closure of its events' predecessors.
 pub fn decide(
     records: &[u8],
     holding: &[u64],
@@ -241,17 +238,16 @@ pub fn decide(
     matches: &[u16],
     pattern: &[u8],
     front: &mut [u16],
-) -> u64
+) -> Option<Verdict>
     requires { (length records.now ≤ records_length) × ((check_events (decode_all records.now)).refusal ≡ 0)
         × Holding (decode_all records.now) holding.now
         × Needed (decode_all records.now) predecessors.now writers.now matches.now
         × (front.old ≡ replicate tasks 0) }
-    ensures { (result ≡ judged (decode_all records.now) pattern.now)
-        × (result ≡ 2 → Reached (decode_all records.now) (numbers pattern.now)
-        front.new) }
+    ensures decided { result ≡ judged (decode_all records.now) pattern.now }
+    ensures reached { result ≡ Some Deadlock → Reached (decode_all records.now) (numbers pattern.now) front.new }
 {
     if !lends_pattern(records, holding, pattern) {
-        return 0;
+        return None;
     }
     let mut want = [0u16; 16];
     let mut latest = [0u16; 64];
@@ -266,18 +262,17 @@ pub fn decide(
         &mut latest,
     );
     if avoids(records, pattern, front) {
-        return 2;
+        return Some(Verdict::Deadlock);
     }
-    1
+    Some(Verdict::Not)
 }
 
 // Decides the lent bytes with tables of its own.
-fn judge(records: &[u8], pattern: &[u8], front: &mut [u16]) -> u64
+fn judge(records: &[u8], pattern: &[u8], front: &mut [u16]) -> Option<Verdict>
     requires { (length records.now ≤ records_length) × ((check_events (decode_all records.now)).refusal ≡ 0)
         × (front.old ≡ replicate tasks 0) }
-    ensures { (result ≡ judged (decode_all records.now) pattern.now)
-        × (result ≡ 2 → Reached (decode_all records.now) (numbers pattern.now)
-        front.new) }
+    ensures decided { result ≡ judged (decode_all records.now) pattern.now }
+    ensures reached { result ≡ Some Deadlock → Reached (decode_all records.now) (numbers pattern.now) front.new }
 {
     let mut operations = [0u8; 4096];
     let mut tasks = [0u8; 4096];
@@ -309,31 +304,12 @@ fn judge(records: &[u8], pattern: &[u8], front: &mut [u16]) -> u64
 
 // The verdict of a lent pattern: the recording's questions, question 10, then whether the closure of its
 // predecessors has none of its events.
-pub fn verdict(recording: &[u8], pattern: &[u8]) -> model::Verdict
-    ensures { result ≡ verdict recording.now pattern.now }
+pub fn verdict(recording: &[u8], pattern: &[u8]) -> Result<Verdict, Refusal>
+    ensures { verdict_of result ≡ verdict recording.now pattern.now }
 {
-    let checked = recording::check(recording);
-    if checked.refusal != 0 {
-        return model::Verdict {
-            refusal: checked.refusal,
-            event: checked.event,
-            deadlock: false,
-        };
-    }
+    recording::check(recording)?;
     let mut front = [0u16; 16];
-    let decided = judge(&recording[2..], pattern, &mut front);
-    if decided == 0 {
-        return model::Verdict {
-            refusal: 10,
-            event: 0,
-            deadlock: false,
-        };
-    }
-    model::Verdict {
-        refusal: 0,
-        event: 0,
-        deadlock: decided == 2,
-    }
+    judge(&recording[2..], pattern, &mut front).ok_or(Question::Pattern.into())
 }
 
 // How many events are in the set of the frontier.
@@ -343,12 +319,10 @@ fn count_behind(records: &[u8], front: &[u16]) -> u64
         × (result ≡ length (behind (decode_all records.now) front.now)) }
 {
     let mut count = 0;
-    let mut e = 1;
-    while e <= records.len() / 2 {
+    for e in 1..records.len() / 2 + 1 {
         if frontier::contains(records, front, e) {
-            count = count + 1;
+            count += 1;
         }
-        e = e + 1;
     }
     count
 }
@@ -377,28 +351,14 @@ fn write_behind(records: &[u8], front: &[u16], out: &mut [u8])
         (encode (behind (decode_all records.now) front.now)) }
 {
     let mut at = 0;
-    let mut e = 1;
-    while e <= records.len() / 2 {
+    for e in 1..records.len() / 2 + 1 {
         at = write_one(records, front, out, at, e);
-        e = e + 1;
-    }
-}
-
-// A witness call that writes nothing.
-fn unwritten(refusal: u64, event: u64) -> model::Witness
-    ensures { result ≡ refused_witness refusal event }
-{
-    model::Witness {
-        refusal,
-        event,
-        deadlock: false,
-        bytes: 0,
     }
 }
 
 // Delivers the schedule of a deadlock, the events in the set of the frontier: question 13, and where they fit
-// the output they are written at its front.
-fn deliver(records: &[u8], front: &[u16], out: &mut [u8]) -> model::Witness
+// the output they are written at its front, in so many bytes.
+fn deliver(records: &[u8], front: &[u16], out: &mut [u8]) -> Result<u64, Question>
     requires { (length records.now ≤ records_length) × (length front.now ≡ tasks) }
     ensures answer { result ≡ delivered
         (encode (behind (decode_all records.now) front.now))
@@ -406,51 +366,41 @@ fn deliver(records: &[u8], front: &[u16], out: &mut [u8]) -> model::Witness
     ensures output { out.new ≡ delivered_out
         (encode (behind (decode_all records.now) front.now)) out.old }
 {
-    let count = count_behind(records, front);
-    if (out.len() as u64) < 2 * count {
-        return unwritten(13, 0);
+    let bytes = 2 * count_behind(records, front);
+    if (out.len() as u64) < bytes {
+        return Err(Question::OutputLength);
     }
     write_behind(records, front, out);
-    model::Witness {
-        refusal: 0,
-        event: 0,
-        deadlock: true,
-        bytes: 2 * count,
-    }
+    Ok(bytes)
 }
 
 // The witness call from question 10 on: what is decided of the lent bytes, and where that is deadlock the
 // schedule of the frontier.
-fn witness_records(records: &[u8], pattern: &[u8], out: &mut [u8]) -> model::Witness
+fn witness_records(records: &[u8], pattern: &[u8], out: &mut [u8]) -> Result<Option<u64>, Refusal>
     requires { (length records.now ≤ records_length)
         × ((check_events (decode_all records.now)).refusal ≡ 0) }
-    ensures answer { result ≡ witness_from (decode_all records.now) pattern.now
+    ensures answer { witness_of result ≡ witness_from (decode_all records.now) pattern.now
         (length out.old) }
     ensures output { out.new ≡ witness_out_from (decode_all records.now)
         pattern.now out.old }
 {
     let mut front = [0u16; 16];
-    let decided = judge(records, pattern, &mut front);
-    if decided == 0 {
-        return unwritten(10, 0);
+    match judge(records, pattern, &mut front) {
+        None => Err(Question::Pattern.into()),
+        Some(Verdict::Not) => Ok(None),
+        Some(Verdict::Deadlock) => Ok(Some(deliver(records, &front, out)?)),
     }
-    if decided != 2 {
-        return unwritten(0, 0);
-    }
-    deliver(records, &front, out)
 }
 
 // The schedule that witnesses a lent pattern, the closure of its predecessors in recording order: questions 1
-// to 7, 15 and 16, then question 10, the verdict, and where that is deadlock question 13.
-pub fn witness(recording: &[u8], pattern: &[u8], out: &mut [u8]) -> model::Witness
-    ensures answer { result ≡ witness recording.now pattern.now
+// to 7, 15 and 16, then question 10, the verdict, and where that is deadlock question 13. It answers how many
+// bytes of schedule are written, or none where the verdict is "not".
+pub fn witness(recording: &[u8], pattern: &[u8], out: &mut [u8]) -> Result<Option<u64>, Refusal>
+    ensures answer { witness_of result ≡ witness recording.now pattern.now
         (length out.old) }
     ensures output { out.new ≡ witness_out recording.now pattern.now
         out.old }
 {
-    let checked = recording::check(recording);
-    if checked.refusal != 0 {
-        return unwritten(checked.refusal, checked.event);
-    }
+    recording::check(recording)?;
     witness_records(&recording[2..], pattern, out)
 }

@@ -18,22 +18,19 @@ contains-requires c =
 pub returns-then-contains : goal.returns-then-contains
 returns-then-contains c =
     let k = c.loop-i in
-    passing_stop _ (numbers c.args.pattern.now) k.i k.invariant.1
+    passing_stop _ (numbers c.args.pattern.now) k.i k.invariant
     (numbers_inside c.args.pattern.now c.loop-i-test.true)
     c.number.ensures (ap not c.contains.ensures) (ap not c.if-contains.true)
 
 pub loop-i-preserved : goal.loop-i-preserved
 loop-i-preserved c =
-    let k = c.loop-i in (
-      omega (arith, c.loop-i-test.true),
-      passing-next _ (numbers c.args.pattern.now) k.i k.invariant.1
-          (numbers_inside c.args.pattern.now c.loop-i-test.true)
-          c.number.ensures
-          (ap not c.contains.ensures) (ap not c.if-contains.false),
-    )
+    let k = c.loop-i in
+    passing-next _ (numbers c.args.pattern.now) k.i k.invariant
+    (numbers_inside c.args.pattern.now c.loop-i-test.true)
+    c.number.ensures (ap not c.contains.ensures) (ap not c.if-contains.false)
 
 pub returns : goal.returns
 returns c =
     let k = c.loop-i in
     let count = numbers-length c.args.pattern.now in
-    passing_end _ (numbers c.args.pattern.now) k.i k.invariant.1 (omega (arith, c.loop-i-test.false))
+    passing_end _ (numbers c.args.pattern.now) k.i k.invariant (omega (arith, c.loop-i-test.false))

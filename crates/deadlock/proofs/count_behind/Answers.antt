@@ -16,9 +16,7 @@ overflow_add-count c =
     let k = c.loop-e in
     omega (
       arith,
-      k.invariant.2,
-      behind-count (decode_all c.args.records.now) c.args.front.now k.e
-          k.invariant.0,
+      behind-count (decode_all c.args.records.now) c.args.front.now k.e k.auto.e,
       c.loop-e-test.true,
       c.requires.0,
     )
@@ -29,31 +27,23 @@ loop-e-preserved c =
     let σ = decode_all c.args.records.now in
     let front = c.args.front.now in
     let is = c.contains.ensures in
-    let old = behind_below σ front k.e in (
-      omega arith,
-      omega (arith, c.loop-e-test.true),
-      elim c.if-contains.branch [
-        | then-contains w ↦ w.count-is ∙ omega (
-          arith,
-          k.invariant.2,
-          ap length (behind_more σ front k.e k.invariant.0 (sym is ∙ w.if-contains.true)),
-          length-append old (k.e ∷ []),
-        )
-        | else-contains w ↦ w.count-is ∙ k.invariant.2 ∙ ap length (sym (behind_same σ front k.e k.invariant.0
-            (sym is ∙ w.if-contains.false)))
-      ],
-    )
+    elim c.if-contains.branch [
+      | then-contains w ↦ w.count-is ∙ omega (
+        arith,
+        k.invariant,
+        ap length (behind_more σ front k.e k.auto.e (sym is ∙ w.if-contains.true)),
+        length-append (behind_below σ front k.e) (k.e ∷ []),
+      )
+      | else-contains w ↦ w.count-is ∙ k.invariant ∙ ap length (sym (behind_same σ front k.e k.auto.e
+          (sym is ∙ w.if-contains.false)))
+    ]
 
 pub returns : goal.returns
 returns c =
     let k = c.loop-e in
     let σ = decode_all c.args.records.now in
-    let last : k.e ≡ length σ + 1 = omega (
-      arith,
-      c.loop-e-test.false,
-      decode_all-length
-          c.args.records.now,
-    ) in (
-      omega (arith, k.invariant.2, behind-count σ c.args.front.now k.e k.invariant.0, c.requires.0),
-      k.invariant.2 ∙ ap (λ (e : ℕ). length (behind_below σ c.args.front.now e)) last,
+    let size = decode_all-length c.args.records.now in
+    let last : k.e ≡ length σ + 1 = omega (arith, c.loop-e-test.false, k.auto.e-end) in (
+      omega (arith, k.invariant, behind-count σ c.args.front.now k.e k.auto.e, c.requires.0),
+      k.invariant ∙ ap (λ (e : ℕ). length (behind_below σ c.args.front.now e)) last,
     )

@@ -2,7 +2,6 @@
 -- nothing.
 use mathlib.Core.Path.{◌≡◌, refl, sym, ◌∙◌}
 use mathlib.Core.Bool.{true, false, ◌&&◌}
-use native.Mathlib.Omega.{arith}
 use Rattle.model.specs.Bytes.{numbers, is_whole}
 use Rattle.model.specs.Recording.{decode_all}
 use Rattle.model.specs.Pattern.{is_pattern}
@@ -20,12 +19,10 @@ pattern-lent : (c : goal.Else-not-lends_pattern)
     ≡ true
 pattern-lent c = sym c.lends_pattern.ensures ∙ c.if-not-lends_pattern.false
 
-pub returns-then-not-lends_pattern : goal.returns-then-not-lends_pattern
-returns-then-not-lends_pattern c = (
-  judged-none (decode_all c.args.records.now) c.args.pattern.now
-      (sym c.lends_pattern.ensures ∙ c.if-not-lends_pattern.true),
-  λ q. absurd (omega arith),
-)
+pub returns-then-not-lends_pattern-clause-decided : goal.returns-then-not-lends_pattern-clause-decided
+returns-then-not-lends_pattern-clause-decided c =
+    sym (judged-none (decode_all c.args.records.now) c.args.pattern.now
+    (sym c.lends_pattern.ensures ∙ c.if-not-lends_pattern.true))
 
 pub reach-requires : goal.reach-requires
 reach-requires c =
@@ -49,19 +46,17 @@ pub returns-then-avoids : goal.returns-then-avoids
 returns-then-avoids c =
     let σ = decode_all c.args.records.now in
     let z = c.reach.ensures in
-    let v = sym c.avoids.ensures ∙ c.if-avoids.true in (
-      judged-verdict σ c.args.pattern.now
+    let v = sym c.avoids.ensures ∙ c.if-avoids.true in record {
+      decided = sym (judged-verdict σ c.args.pattern.now
           (pattern-lent (goal.at.returns-then-avoids c).Else-not-lends_pattern) _ _
-          true z (sym v),
-      λ _. judged_reached σ c.args.pattern.now _ _ z,
-    )
+          true z (sym v));
+      reached = λ _. judged_reached σ c.args.pattern.now _ _ z;
+    }
 
-pub returns : goal.returns
-returns c =
+pub returns-clause-decided : goal.returns-clause-decided
+returns-clause-decided c =
     let σ = decode_all c.args.records.now in
-    let z = c.reach.ensures in
-    let v = sym c.avoids.ensures ∙ c.if-avoids.false in (
-      judged-verdict σ c.args.pattern.now (pattern-lent (goal.at.returns c).Else-not-lends_pattern) _ _
-          false z (sym v),
-      λ q. absurd (omega arith),
-    )
+    let v = sym c.avoids.ensures ∙ c.if-avoids.false in
+    sym (judged-verdict σ c.args.pattern.now
+    (pattern-lent (goal.at.returns-clause-decided c).Else-not-lends_pattern) _ _
+    false c.reach.ensures (sym v))

@@ -3,6 +3,9 @@ use Rattle.model.specs.Recording.{decode_all}
 use Rattle.laws.proofs.WellFormed.{WellFormed}
 use Rattle.laws.proofs.Questions.{events_sound}
 use Rattle.deadlock.proofs.Chains.{acquires-not, acquires-task, acquires_own}
+use Rattle.frontier.proofs.Leaves.{code_other}
+use mathlib.Core.Path.{refl}
+use borrow.Author.Tests.{le-ltb}
 use Rattle.deadlock.proofs.is_acquire.Goals as goal
 use Rattle.deadlock.proofs.is_acquire.Goals.{Start}
 
@@ -10,20 +13,19 @@ use Rattle.deadlock.proofs.is_acquire.Goals.{Start}
 sound : (c : goal.Start) → WellFormed (decode_all c.args.records.now)
 sound c = events_sound c.args.records.now c.requires.2
 
-pub returns-then-opcode-ne2 : goal.returns-then-opcode-ne2
-returns-then-opcode-ne2 c =
-    acquires-not (decode_all c.args.records.now) (sound (goal.at.returns-then-opcode-ne2 c).Start) c.args.e
-    c.opcode.ensures.1
-    c.if-opcode-ne2.true
-
-pub returns-then-l-ge64 : goal.returns-then-l-ge64
-returns-then-l-ge64 c =
-    acquires-task (decode_all c.args.records.now) (sound (goal.at.returns-then-l-ge64 c).Start) c.args.e
-    c.opcode.ensures.1 c.object-l.ensures.1 c.if-l-ge64.true
-
-pub returns : goal.returns
-returns c =
+pub returns-then-l-lt64 : goal.returns-then-l-lt64
+returns-then-l-lt64 c =
     rw c.in_mask.ensures
-    (acquires_own (decode_all c.args.records.now) (sound (goal.at.returns c).Start) c.args.e
-    c.opcode.ensures.1 c.object-l.ensures.1 c.if-opcode-ne2.false
-    c.if-l-ge64.false c.requires.3)
+    (acquires_own (decode_all c.args.records.now) (sound (goal.at.returns-then-l-lt64 c).Start) c.args.e
+    c.in-Acquire.ensures c.object-l.ensures.1 refl c.if-l-lt64.true c.requires.3)
+
+pub returns-else-l-lt64 : goal.returns-else-l-lt64
+returns-else-l-lt64 c =
+    rw (le-ltb c.object-l.result 64 c.if-l-lt64.false)
+    (acquires-task (decode_all c.args.records.now) (sound (goal.at.returns-else-l-lt64 c).Start) c.args.e
+    c.in-Acquire.ensures c.object-l.ensures.1 c.if-l-lt64.false)
+
+pub returns-in_default : goal.returns-in_default
+returns-in_default c =
+    acquires-not (decode_all c.args.records.now) (sound (goal.at.returns-in_default c).Start) c.args.e
+    c.operation.ensures (code_other _ c.in_default.not-Acquire)

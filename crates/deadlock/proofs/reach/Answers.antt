@@ -26,7 +26,7 @@ extend-requires c =
     let k = c.loop-i in
     let (h, l, j) = event (goal.at.extend-requires c).Start c.loop-i-test.true
     c.number-e.ensures in
-    (c.requires.0, c.requires.1, c.requires.2, k.invariant.1.settled, k.invariant.2, h, j)
+    (c.requires.0, c.requires.1, c.requires.2, k.invariant.0.settled, k.invariant.1, h, j)
 
 pub loop-i-preserved : goal.loop-i-preserved
 loop-i-preserved c =
@@ -35,10 +35,9 @@ loop-i-preserved c =
     let more = c.loop-i-test.true in
     let (h, l, j) = event (goal.at.loop-i-preserved c).Start more c.number-e.ensures in
     let done = c.extend.ensures in (
-      omega (arith, more),
       before-next (decode_all b) (numbers c.args.pattern.now) k.i
           (numbers_inside c.args.pattern.now more) (events_sound b c.requires.1) k.front k.latest
-          _ _ _ c.number-e.ensures k.invariant.1 h l done.0,
+          _ _ _ c.number-e.ensures k.invariant.0 h l done.0,
       done.1,
     )
 
@@ -46,4 +45,4 @@ pub returns : goal.returns
 returns c =
     let k = c.loop-i in
     let count = numbers-length c.args.pattern.now in
-    rw (take_all k.i (numbers c.args.pattern.now) (omega (arith, c.loop-i-test.false))) at k.invariant.1
+    rw (take_all k.i (numbers c.args.pattern.now) (omega (arith, c.loop-i-test.false))) at k.invariant.0

@@ -1,55 +1,45 @@
 -- `deadlock::verdict` meets its contract: the recording's questions, then what is decided of the pattern.
 -- Assumes nothing.
-use mathlib.Core.Path.{◌≡◌, refl, sym, ap, ◌∙◌}
+use mathlib.Core.Path.{◌≡◌, refl, sym}
 use borrow.Author.Rules.{rules}
-use Rattle.model.specs.Answers.{Outcome}
 use Rattle.model.specs.Calls.Check.{check}
-use Rattle.laws.specs.Answered.{refused_verdict}
+use Rattle.laws.proofs.Results.{passed_on, is_refused, is_passed}
 use Rattle.laws.proofs.Questions.{check_bytes, part-trace, part_small, part_accepted}
-use Rattle.deadlock.proofs.Answers.{verdict_unchecked, verdict-none, verdict_some}
+use Rattle.deadlock.proofs.Answers.{verdict_unchecked, verdict_accepted}
 use Rattle.deadlock.proofs.verdict.Goals as goal
-use Rattle.deadlock.proofs.verdict.Goals.{Else-checked-ne0}
+use Rattle.deadlock.proofs.verdict.Goals.{In_ok-check}
 
 -- The recording is accepted.
-accepted : (c : goal.Else-checked-ne0) → (check c.args.recording.now
-    ).refusal ≡ 0
-accepted c = sym (ap (λ (o : Outcome). o.refusal) c.check-checked.ensures) ∙ c.if-checked-ne0.false
+accepted : (c : goal.In_ok-check) → (check c.args.recording.now).refusal ≡ 0
+accepted c = is_passed c.in_ok-check.field-0 _ c.in_ok-check.ensures
 
-pub returns-then-checked-ne0 : goal.returns-then-checked-ne0
-returns-then-checked-ne0 c =
-    let q = c.check-checked.ensures in
-    ap (λ (o : Outcome). refused_verdict o.refusal o.event) q
-    ∙ sym (verdict_unchecked c.args.recording.now c.args.pattern.now (rw q at c.if-checked-ne0.true))
+pub returns-in_err-check : goal.returns-in_err-check
+returns-in_err-check c =
+    let q = c.in_err-check.ensures in
+    rw (passed_on c.from_residual.result _ c.from_residual.ensures.1)
+    (sym (rw (← q) at (verdict_unchecked c.args.recording.now c.args.pattern.now (is_refused _ _ q))))
 
 pub slice_bounds-judge-count : goal.slice_bounds-judge-count
 slice_bounds-judge-count c =
-    (check_bytes c.args.recording.now (accepted (goal.at.slice_bounds-judge-count c).Else-checked-ne0)).0
+    (check_bytes c.args.recording.now (accepted (goal.at.slice_bounds-judge-count c).In_ok-check)).0
 
 pub slice_bounds-judge-start : goal.slice_bounds-judge-start
 slice_bounds-judge-start c =
-    let h = (check_bytes c.args.recording.now
-    (accepted (goal.at.slice_bounds-judge-start c).Else-checked-ne0)).0
-    in search rules
+    let h = (check_bytes c.args.recording.now (accepted (goal.at.slice_bounds-judge-start c).In_ok-check)).0 in
+    search rules
 
-pub judge-decided-requires : goal.judge-decided-requires
-judge-decided-requires c =
+pub judge-requires : goal.judge-requires
+judge-requires c =
     let b = c.args.recording.now in
-    let ok = accepted (goal.at.judge-decided-requires c).Else-checked-ne0 in (
+    let ok = accepted (goal.at.judge-requires c).In_ok-check in (
       part_small b ok (c.type_inv.recording 1).fits,
       part_accepted b ok,
       refl,
     )
 
-pub returns-then-decided-eq0 : goal.returns-then-decided-eq0
-returns-then-decided-eq0 c =
-    let b = c.args.recording.now in
-    let is = rw (part-trace b) at c.judge-decided.ensures.0 in
-    sym (verdict-none b c.args.pattern.now (accepted (goal.at.returns-then-decided-eq0 c).Else-checked-ne0)
-    (sym is ∙ c.if-decided-eq0.true))
-
 pub returns : goal.returns
 returns c =
     let b = c.args.recording.now in
-    let is = rw (part-trace b) at c.judge-decided.ensures.0 in
-    rw is (sym (verdict_some b c.args.pattern.now (accepted (goal.at.returns c).Else-checked-ne0)
-    (λ q. c.if-decided-eq0.false (is ∙ q))))
+    let is = rw (part-trace b) at c.judge.ensures.decided in
+    rw (c.ok_or.ensures.value, c.into.ensures, is)
+    (verdict_accepted b c.args.pattern.now (accepted (goal.at.returns c).In_ok-check))

@@ -1,34 +1,47 @@
 -- `deadlock::witness_records` meets its contract: each return cites the law of what is decided.
 -- Assumes nothing.
-use mathlib.Core.Path.{sym, ◌∙◌}
+use mathlib.Core.Path.{ap, ◌∙◌}
+use Rattle.std.specs.Prelude.{Some}
+use Rattle.model.specs.declared.Verdict.TheVariants.{Deadlock}
 use Rattle.model.specs.Recording.{decode_all}
+use Rattle.laws.proofs.Results.{passed_on}
+use Rattle.deadlock.specs.Delivered.{answer_by}
 use Rattle.deadlock.proofs.Delivered.{witness_from-none, witness_from-not, witness_from_deadlock}
 use Rattle.deadlock.proofs.witness_records.Goals as goal
 
-pub returns-then-decided-eq0 : goal.returns-then-decided-eq0
-returns-then-decided-eq0 c =
+pub returns-in-None : goal.returns-in-None
+returns-in-None c =
     let a = c.args in
-    let is = c.judge-decided.ensures.0 in
     let (x, y) =
-    witness_from-none (decode_all a.records.now) a.pattern.now a.out.now
-    (sym is ∙ c.if-decided-eq0.true) in
-    record { answer = c.unwritten.ensures ∙ x; output = y }
+    witness_from-none (decode_all a.records.now) a.pattern.now a.out.now c.in-None.ensures.decided in
+    record { answer = rw c.into.ensures x; output = y }
 
-pub returns-then-decided-ne2 : goal.returns-then-decided-ne2
-returns-then-decided-ne2 c =
+pub returns-in-Some-Not : goal.returns-in-Some-Not
+returns-in-Some-Not c =
     let a = c.args in
-    let is = c.judge-decided.ensures.0 in
     let (x, y) =
     witness_from-not (decode_all a.records.now) a.pattern.now a.out.now
-    (λ q. c.if-decided-eq0.false (is ∙ q)) (λ q. c.if-decided-ne2.true (is ∙ q)) in
-    record { answer = c.unwritten-then-decided-ne2.ensures ∙ x; output = y }
+    (rw c.in-Some-Not.field-0-is at c.in-Some-Not.ensures.decided) in
+    record { answer = x; output = y }
 
-pub returns : goal.returns
-returns c =
+pub returns-in_err-deliver-in-Some-Deadlock : goal.returns-in_err-deliver-in-Some-Deadlock
+returns-in_err-deliver-in-Some-Deadlock c =
     let a = c.args in
-    let judged = c.judge-decided in
-    let two = c.if-decided-ne2.false in
-    let (x, y) =
-    witness_from_deadlock (decode_all a.records.now) a.pattern.now a.out.now
-    (sym judged.ensures.0 ∙ two) _ (judged.ensures.1 two) in
-    record { answer = c.deliver.ensures.answer ∙ x; output = c.deliver.ensures.output ∙ y }
+    let is = rw c.in-Some-Deadlock.field-0-is at c.in-Some-Deadlock.ensures.decided in
+    let front = c.in-Some-Deadlock.ensures.reached (ap Some c.in-Some-Deadlock.field-0-is) in
+    let delivered = c.in_err-deliver-in-Some-Deadlock.ensures in
+    let (x, y) = witness_from_deadlock (decode_all a.records.now) a.pattern.now a.out.now is _ front in
+    record {
+      answer = rw (passed_on c.from_residual.result _ c.from_residual.ensures.1)
+          (ap (answer_by (Some Deadlock)) delivered.answer ∙ x);
+      output = delivered.output ∙ y;
+    }
+
+pub returns-in_ok-deliver-in-Some-Deadlock : goal.returns-in_ok-deliver-in-Some-Deadlock
+returns-in_ok-deliver-in-Some-Deadlock c =
+    let a = c.args in
+    let is = rw c.in-Some-Deadlock.field-0-is at c.in-Some-Deadlock.ensures.decided in
+    let front = c.in-Some-Deadlock.ensures.reached (ap Some c.in-Some-Deadlock.field-0-is) in
+    let delivered = c.in_ok-deliver-in-Some-Deadlock.ensures in
+    let (x, y) = witness_from_deadlock (decode_all a.records.now) a.pattern.now a.out.now is _ front in
+    record { answer = ap (answer_by (Some Deadlock)) delivered.answer ∙ x; output = delivered.output ∙ y }

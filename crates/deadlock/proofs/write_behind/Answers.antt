@@ -19,17 +19,17 @@ write_one-at-requires c =
     let front = c.args.front.now in
     let size = decode_all-length c.args.records.now in
     let inside = c.loop-e-test.true in (
-      k.invariant.0,
+      k.auto.e,
       omega arith,
       omega (arith, c.requires.0),
       c.requires.1,
       omega (
         arith,
-        written_at σ front k.e k.invariant.0 k.out k.at k.invariant.3,
+        written_at σ front k.e k.auto.e k.out k.at k.invariant.0,
         encode-length (behind_below σ front (k.e + 1)),
         behind_mono σ front (k.e + 1) (length σ + 1) (omega arith),
         c.requires.2,
-        k.invariant.2,
+        k.auto.out,
       ),
     )
 
@@ -39,22 +39,14 @@ loop-e-preserved c =
     let σ = decode_all c.args.records.now in
     let front = c.args.front.now in
     let w = c.write_one-at.ensures in (
-      omega arith,
-      omega (arith, c.loop-e-test.true),
-      c.write_one-at.auto.out ∙ k.invariant.2,
-      w.0 ∙ written_at σ front k.e k.invariant.0 k.out k.at k.invariant.3,
-      w.1 ∙ rw k.invariant.4 (written_more σ front k.e k.invariant.0 c.args.out.now k.at k.invariant.3),
+      w.0 ∙ written_at σ front k.e k.auto.e k.out k.at k.invariant.0,
+      w.1 ∙ rw k.invariant.1 (written_more σ front k.e k.auto.e c.args.out.now k.at k.invariant.0),
     )
 
 pub returns : goal.returns
 returns c =
     let k = c.loop-e in
     let σ = decode_all c.args.records.now in
-    let last : k.e ≡ length σ + 1 = omega (
-      arith,
-      c.loop-e-test.false,
-      decode_all-length
-          c.args.records.now,
-    ) in
-    k.invariant.4 ∙ ap (λ (e : ℕ). sets c.args.out.now 0 (encode (behind_below σ c.args.front.now e)))
-    last
+    let size = decode_all-length c.args.records.now in
+    let last : k.e ≡ length σ + 1 = omega (arith, c.loop-e-test.false, k.auto.e-end) in
+    k.invariant.1 ∙ ap (λ (e : ℕ). sets c.args.out.now 0 (encode (behind_below σ c.args.front.now e))) last

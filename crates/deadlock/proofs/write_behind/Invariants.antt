@@ -1,5 +1,4 @@
 -- `deadlock::write_behind` meets its contract: the events passed are written. Assumes nothing.
-use Prim.Native.Nat.{◌+◌, ◌-◌, ◌/◌, ◌≤◌}
 use mathlib.Core.Path.{◌≡◌}
 use lib.ListN.{length}
 use lib.Seq.{sets}
@@ -10,9 +9,5 @@ use Rattle.deadlock.proofs.write_behind.Given as goal
 
 abbrev pub invariant-loop-e : goal.invariant-loop-e
 invariant-loop-e l =
-    (1 ≤ l.e) × (l.e ≤ length l.records / 2 + 1) × (length l.out ≡ length l.initial.out)
-    × (l.at ≡ length (encode (behind_below (decode_all l.records) l.front l.e)))
+    (l.at ≡ length (encode (behind_below (decode_all l.records) l.front l.e)))
     × (l.out ≡ sets l.initial.out 0 (encode (behind_below (decode_all l.records) l.front l.e)))
-
-abbrev pub decreases-loop-e : goal.decreases-loop-e
-decreases-loop-e l = length l.records / 2 + 1 - l.e
