@@ -1,6 +1,6 @@
 -- The table that question 10 reads and its test of each number, what is decided of a lent pattern, and the
 -- events in the set of a frontier.
-use Rattle.std.specs.Prelude.{ℕ, ◌+◌, ◌-◌, ◌≤◌, ◌≡◌, Bool, cond, ◌&&◌, List, [], ◌∷◌, leb, ltb, length}
+use Rattle.std.specs.Prelude.{ℕ, ◌+◌, ◌-◌, ◌<◌, ◌≤◌, ◌≡◌, Bool, cond, ◌&&◌, List, [], ◌∷◌, leb, ltb, length}
 use Rattle.std.specs.Prelude.{get_or, Option, Some, None}
 use Rattle.model.specs.declared.Verdict.{Verdict}
 use Rattle.model.specs.declared.Verdict.TheVariants.{Not, Deadlock}
@@ -32,6 +32,11 @@ judged σ p =
 pub record Reached (σ : Trace) (p front : List ℕ) : Type 0 where
   pub long : length front ≡ tasks
   pub members : FrontOf σ p front
+
+-- Whatever is given by the places of a list below `count`, its length, are the numbers there.
+abbrev pub Gives : (ℕ → ℕ → Type 0) → ℕ → List ℕ → Type 0
+Gives given count ns =
+    (length ns ≡ count) × ((i : ℕ) (e : ℕ) → i < count → given i e → e ≡ get_or ns i 0)
 
 -- Event e where it is in the set of a frontier, and otherwise none.
 abbrev pub behind_at : Trace → List ℕ → ℕ → List ℕ

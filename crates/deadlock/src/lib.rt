@@ -2,7 +2,7 @@
 // schedule that witnesses it. A pattern's numbers are two bytes each.
 #![tactic(auto)]
 
-ghost use Rattle.std.specs.Prelude.{◌+◌, ◌*◌, ◌/◌, ◌^◌, ◌<◌, ◌≤◌, ◌≡◌, not, ◌&&◌, [], T, leb, length, get_or};
+ghost use Rattle.std.specs.Prelude.{ℕ, List, ◌+◌, ◌*◌, ◌/◌, ◌^◌, ◌<◌, ◌≤◌, ◌≡◌, not, ◌&&◌, [], T, leb, length, get_or};
 ghost use Rattle.std.specs.Prelude.{drop, replicate, Some};
 ghost use Rattle.std.specs.Int.Bits.{bit_or};
 ghost use Rattle.std.proofs.lemmas.List.Edits.{sets};
@@ -21,7 +21,7 @@ ghost use Rattle.model.specs.Answers.{verdict_of, witness_of};
 ghost use Rattle.laws.specs.Chain.{signature, start, fits, completing, chain_of};
 ghost use Rattle.laws.specs.Frontier.{Before};
 ghost use Rattle.frontier.specs.Visit.{Needed};
-ghost use Rattle.deadlock.specs.Judged.{Holding, joins, judged, Reached, behind_at, behind};
+ghost use Rattle.deadlock.specs.Judged.{Holding, joins, judged, Reached, Gives, behind_at, behind};
 ghost use Rattle.deadlock.specs.Delivered.{delivered, delivered_out, witness_from, witness_out_from};
 
 use model::{Question, Refusal, Verdict};
@@ -212,16 +212,17 @@ fn reach(
     }
 }
 
-// No event of the pattern is in the set of the frontier.
-fn avoids(records: &[u8], pattern: &[u8], front: &[u16]) -> bool
-    requires { T (all (is_event (decode_all records.now)) (numbers pattern.now))
-        × (length front.now ≡ tasks) }
-    ensures { result ≡ all
-        (λ e. not (leb e (get_or front.now (task (decode_all records.now) e) 0)))
-        (numbers pattern.now) }
+// None of `count` events, which the closure gives by their places from 0 on, is in the set of the frontier.
+pub fn avoids<F: Fn(usize) -> u16>(records: &[u8], count: usize, event: F, front: &[u16]) -> bool
+    requires callable { (i : ℕ) → i < count → F.pre event i }
+    requires events { (i : ℕ) (e : ℕ) → i < count → F.post event i e
+        → (1 ≤ e) × (2 * e ≤ length records.now) }
+    requires long { length front.now ≡ tasks }
+    ensures { (ns : List ℕ) → Gives (F.post event) count ns
+        → result ≡ all (λ e. not (leb e (get_or front.now (task (decode_all records.now) e) 0))) ns }
 {
-    for i in 0..pattern.len() / 2 {
-        if frontier::contains(records, front, recording::number(pattern, i) as usize) {
+    for i in 0..count {
+        if frontier::contains(records, front, event(i) as usize) {
             return false;
         }
     }
@@ -261,7 +262,12 @@ pub fn decide(
         &mut want,
         &mut latest,
     );
-    if avoids(records, pattern, front) {
+    if avoids(
+        records,
+        pattern.len() / 2,
+        |i| recording::number(pattern, i),
+        front,
+    ) {
         return Some(Verdict::Deadlock);
     }
     Some(Verdict::Not)

@@ -5,6 +5,10 @@ use mathlib.Core.Bool.{true, false, ◌&&◌}
 use Rattle.model.specs.Bytes.{numbers, is_whole}
 use Rattle.model.specs.Recording.{decode_all}
 use Rattle.model.specs.Pattern.{is_pattern}
+use Rattle.laws.proofs.Bytes.{numbers-length, numbers_inside}
+use Rattle.laws.proofs.Passing.{listed-event}
+use borrow.Author.Rules.{rules}
+use lib.ListN.{get_or}
 use Rattle.laws.proofs.Before.{before-start}
 use Rattle.laws.proofs.Pattern.{lent_events}
 use Rattle.deadlock.proofs.Verdicts.{judged-none, judged-verdict, judged_reached}
@@ -35,28 +39,33 @@ reach-requires c =
       sym c.requires.4,
     )
 
-pub avoids-requires : goal.avoids-requires
-avoids-requires c = (
-  lent_events (decode_all c.args.records.now) c.args.pattern.now
-      (pattern-lent (goal.at.avoids-requires c).Else-not-lends_pattern),
-  c.reach.ensures.settled.front_ok.long,
-)
+pub avoids-requires-clause-events : goal.avoids-requires-clause-events
+avoids-requires-clause-events c = λ i e h k.
+    let p = c.args.pattern.now in
+    let is : e ≡ get_or (numbers p) i 0 = search rules in
+    let (x, y, z) = listed-event c.args.records.now (numbers p) i
+    (lent_events (decode_all c.args.records.now) p
+    (pattern-lent (goal.at.avoids-requires-clause-events c).Else-not-lends_pattern))
+    (numbers_inside p h) is in
+    (x, z)
 
 pub returns-then-avoids : goal.returns-then-avoids
 returns-then-avoids c =
     let σ = decode_all c.args.records.now in
+    let p = c.args.pattern.now in
     let z = c.reach.ensures in
-    let v = sym c.avoids.ensures ∙ c.if-avoids.true in record {
-      decided = sym (judged-verdict σ c.args.pattern.now
+    let v = c.avoids.ensures (numbers p) (numbers-length p, λ i e h k. search rules) in record {
+      decided = sym (judged-verdict σ p
           (pattern-lent (goal.at.returns-then-avoids c).Else-not-lends_pattern) _ _
-          true z (sym v));
-      reached = λ _. judged_reached σ c.args.pattern.now _ _ z;
+          true z (sym c.if-avoids.true ∙ v));
+      reached = λ _. judged_reached σ p _ _ z;
     }
 
 pub returns-clause-decided : goal.returns-clause-decided
 returns-clause-decided c =
     let σ = decode_all c.args.records.now in
-    let v = sym c.avoids.ensures ∙ c.if-avoids.false in
-    sym (judged-verdict σ c.args.pattern.now
+    let p = c.args.pattern.now in
+    let v = c.avoids.ensures (numbers p) (numbers-length p, λ i e h k. search rules) in
+    sym (judged-verdict σ p
     (pattern-lent (goal.at.returns-clause-decided c).Else-not-lends_pattern) _ _
-    false c.reach.ensures (sym v))
+    false c.reach.ensures (sym c.if-avoids.false ∙ v))
