@@ -1,6 +1,6 @@
 -- The held locks noted with each lock, acquire by acquire and along the links between them. Assumes nothing.
 use Prim.Native.Nat.{ℕ, ◌+◌, ◌≤◌, ◌<◌}
-use mathlib.Core.Path.{◌≡◌, ◌∙◌}
+use mathlib.Core.Path.{◌≡◌, refl, ◌∙◌}
 use mathlib.Core.Logic.{⊎_elim, ◌≢◌}
 use mathlib.Core.Bool.{false}
 use mathlib.Core.List.{List}
@@ -59,33 +59,22 @@ module _ (σ : Trace) (a t guards : ℕ) where
 
 -- ---- along the links
 
--- The table stands before event e, which is 0 after the last nested acquire.
-pub record Noted (σ : Trace) (a t guards : ℕ) (lead : List ℕ) (e : ℕ) : Type 0 where
-  pub long : length lead ≡ locks
-  pub ended : e ≡ 0 → Led σ a (length σ + 1) t guards lead
-  pub event : e ≢ 0 → (e ≤ length σ) × T (is_nested σ e)
-  pub noted : e ≢ 0 → Led σ a e t guards lead
-
-module _ (σ : Trace) (a t guards : ℕ) (lead : List ℕ) where
-  -- Along a link nothing is to be noted: acquires that are not nested hold no lock.
-  pub led_link : (e x : ℕ) → Led σ a (e + 1) t guards lead → Link σ e x → Noted σ a t guards lead x
-  led_link e x z k = record {
-    long = z.long;
-    ended = λ q. upto (length σ + 1) (λ f h l. k.ends q f h (omega arith));
-    event = λ d. let r = k.passes d in (r.1, r.2);
-    noted = λ d. upto x k.between;
-  }
+module _ (σ : Trace) (a t guards : ℕ) (lead : List ℕ) (at : ℕ) (z : Led σ a (at + 1) t guards lead) where
+  -- Acquires that are not nested hold no lock, so nothing is to be noted of them.
+  upto : (stop : ℕ) → ((f : ℕ) → at < f → f < stop → is_nested σ f ≡ false) → Led σ a stop t guards lead
+  upto stop g = record { long = z.long; leads = leads }
     where
-      upto : (stop : ℕ) → ((f : ℕ) → e < f → f < stop → is_nested σ f ≡ false) → Led σ a stop t guards lead
-      upto stop g = record { long = z.long; leads = leads }
-        where
-          leads : (f : ℕ) → a < f → f < stop → T (is_acquire σ f) → task σ f ≢ t
-              → T (eqb (bit_and guards (held σ f)) 0) → Covers (held σ f) (get_or lead (object σ f) 0)
-          leads f h l y d n =
-              ⊎_elim
-              (λ (o : f ≤ e). z.leads f h (omega arith) y d n)
-              (λ (o : e < f). covers-none (held σ f) _ (acquire_free σ f y (g f o l))) (at-most? f e)
+      leads : (f : ℕ) → a < f → f < stop → T (is_acquire σ f) → task σ f ≢ t
+          → T (eqb (bit_and guards (held σ f)) 0) → Covers (held σ f) (get_or lead (object σ f) 0)
+      leads f h l y d n =
+          ⊎_elim
+          (λ (o : f ≤ at). z.leads f h (omega arith) y d n)
+          (λ (o : at < f). covers-none (held σ f) _ (acquire_free σ f y (g f o l))) (at-most? f at)
 
-  -- After the last nested acquire all is noted.
-  pub noted-all : (e : ℕ) → Noted σ a t guards lead e → e ≡ 0 → Leading σ a t guards lead
-  noted-all e z q = z.ended q
+  -- The next one along a link is at hand,
+  pub led_link : (e : ℕ) → Link σ at e → Led σ a e t guards lead
+  led_link e y = upto e y.between
+
+  -- and at the end all is noted.
+  pub led_end : Link σ at 0 → Leading σ a t guards lead
+  led_end y = upto (length σ + 1) (λ f h l. y.ends refl f h (omega arith))

@@ -1,5 +1,6 @@
 -- Laws of the links, of the table of leading locks and of widened masks; each function's proof is in a folder
 -- of its own.
+pub mod Walks
 pub mod Links
 pub mod Spreads
 pub mod Leads

@@ -5,18 +5,19 @@ use mathlib.Core.Path.{◌≡◌, refl, ◌∙◌}
 use mathlib.Core.Logic.{⊎_elim, ◌≢◌}
 use mathlib.Core.Bool.{true, false, cond, not, and-false}
 use mathlib.Core.List.{List}
+use Rattle.std.specs.Prelude.{Option}
 use native.Mathlib.Omega.{arith}
 use lib.Dec.{T, eqb}
 use lib.ListN.{length, get_or, set, length-set}
 use lib.Seq.{get_or-set_same, get_or-set_other}
-use borrow.Author.Tests.{ne_eqb, eqb-true}
+use borrow.Author.Tests.{eq-eqb, ne_eqb, eqb-true}
 use Rattle.model.specs.Trace.{Trace, object, is_acquire}
 use Rattle.model.specs.Relations.{held}
 use Rattle.laws.specs.Sizes.{table_length}
 use Rattle.laws.specs.Chain.{Chain, signature, fits}
 use Rattle.laws.proofs.Bits.{has_bit-none}
 use Rattle.laws.proofs.Tests.{and_l, and_i, is_false, decided, cond_elim, equal?}
-use Rattle.pruning.specs.Linked.{is_nested, Link, Linked}
+use Rattle.pruning.specs.Linked.{is_nested, event_of, Link, Linked, Earliest}
 
 -- ---- nested acquires
 
@@ -119,6 +120,17 @@ module _ (σ : Trace) (e top : ℕ) (next : List ℕ) (z : LinkedAfter σ e top 
     long = length-set next e top ∙ z.long;
     link = λ f h. stored f (omega arith) h;
   }
+
+-- What a place of the table is linked to is the first nested acquire after it, if any.
+pub linked_earliest : (σ : Trace) (next : List ℕ) → Linked σ next → (e : ℕ) → e ≤ length σ → (r : Option ℕ)
+    → r ≡ event_of (get_or next e 0) → Earliest (is_nested σ) (length σ) e r
+linked_earliest σ next z e h r q = rw q (⊎_elim none some (equal? (get_or next e 0) 0))
+  where
+    none : get_or next e 0 ≡ 0 → Earliest (is_nested σ) (length σ) e (event_of (get_or next e 0))
+    none i = rw (eq-eqb (get_or next e 0) 0 i) (rw i at (z.link e h))
+
+    some : get_or next e 0 ≢ 0 → Earliest (is_nested σ) (length σ) e (event_of (get_or next e 0))
+    some d = rw (ne_eqb (get_or next e 0) 0 d) (d, z.link e h)
 
 -- ---- events that may follow
 

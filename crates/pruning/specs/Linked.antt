@@ -1,6 +1,7 @@
 -- The acquires that can stand in a pattern, as links from each event to the next of them and by the locks
 -- that are held in blocks of 64 events.
-use Rattle.std.specs.Prelude.{ℕ, ◌/◌, ◌≤◌, ◌≡◌, Bool, not, ◌&&◌, List, T, eqb, length, get_or}
+use Rattle.std.specs.Prelude.{ℕ, ◌/◌, ◌≤◌, ◌≡◌, ◌≢◌, Bool, not, ◌&&◌, cond, List, T, eqb, length, get_or}
+use Rattle.std.specs.Prelude.{Option, Some, None}
 use Rattle.model.specs.Lists.{has_bit}
 use Rattle.model.specs.Trace.{Trace, is_acquire}
 use Rattle.model.specs.Relations.{held}
@@ -16,6 +17,10 @@ is_nested σ e = is_acquire σ e && not (eqb (held σ e) 0)
 abbrev pub Link : Trace → ℕ → ℕ → Type 0
 Link σ e x = First (is_nested σ) (length σ) e x
 
+-- The event that a number of the table stands for: none where it is 0.
+abbrev pub event_of : ℕ → Option ℕ
+event_of x = cond (eqb x 0) None (Some x)
+
 -- The table has the link of each event, and of number 0.
 pub record Linked (σ : Trace) (next : List ℕ) : Type 0 where
   pub long : length next ≡ table_length
@@ -29,3 +34,9 @@ pub record Marked (σ : Trace) (blocks : List ℕ) : Type 0 where
 -- A nested acquire, in a block where some acquire holds lock l.
 abbrev pub is_near : Trace → List ℕ → ℕ → ℕ → Bool
 is_near σ blocks l e = is_nested σ e && has_bit (get_or blocks (e / 64) 0) l
+
+-- What is found is the first number after e, and at most n, that passes the test, or none where no such number
+-- does.
+abbrev pub Earliest : (ℕ → Bool) → ℕ → ℕ → Option ℕ → Type 0
+Earliest p n e None = First p n e 0
+Earliest p n e (Some x) = (x ≢ 0) × First p n e x

@@ -12,10 +12,9 @@ ghost use Rattle.model.specs.Pattern.{largest_pattern};
 ghost use Rattle.model.specs.Calls.Check.{check_events};
 ghost use Rattle.laws.specs.Sizes.{records_length, table_length};
 ghost use Rattle.laws.specs.Chain.{signature, fits, chain_of};
-ghost use Rattle.laws.specs.Walk.{First};
 ghost use Rattle.laws.specs.Returning.{Covers, Led, Leading, Spread, Returning};
 ghost use Rattle.deadlock.specs.Judged.{Holding};
-ghost use Rattle.pruning.specs.Linked.{is_nested, Linked, Marked, is_near};
+ghost use Rattle.pruning.specs.Linked.{is_nested, event_of, Linked, Marked, is_near, Earliest};
 
 // Event e where it is a nested acquire, and otherwise `later`.
 fn nested_or(records: &[u8], holding: &[u64], e: usize, later: u16) -> u16
@@ -41,13 +40,22 @@ pub fn link_nested(records: &[u8], holding: &[u64], next: &mut [u16])
     ensures { Linked (decode_all records.now) next.new }
 {
     let mut top = 0;
-    let mut e = records.len() / 2;
-    while 0 < e {
+    for e in (1..records.len() / 2 + 1).rev() {
         next[e] = top;
         top = nested_or(records, holding, e, top);
-        e = e - 1;
     }
     next[0] = top;
+}
+
+// The nested acquire to which event e, or number 0, is linked, if any.
+pub fn link(next: &[u16], e: usize) -> Option<usize>
+    requires { e < length next.now }
+    ensures { result ≡ event_of (get_or next.now e 0) }
+{
+    match next[e] {
+        0 => None,
+        x => Some(x as usize),
+    }
 }
 
 // Marks for each 64 events in turn the locks that are held at their acquires.
@@ -56,38 +64,36 @@ pub fn mark_blocks(records: &[u8], holding: &[u64], next: &[u16], blocks: &mut [
         × Linked (decode_all records.now) next.now × (length blocks.old ≡ 64) }
     ensures { Marked (decode_all records.now) blocks.new }
 {
-    let mut e = next[0] as usize;
-    while e != 0 {
-        let b = e / 64;
-        blocks[b] = blocks[b] | holding[e];
-        e = next[e] as usize;
+    let mut at = 0;
+    while let Some(e) = link(next, at) {
+        blocks[e / 64] |= holding[e];
+        at = e;
     }
 }
 
-// The first nested acquire after e in a block where some acquire holds lock l, or 0: other blocks are passed
+// The first nested acquire after e in a block where some acquire holds lock l, if any: other blocks are passed
 // over.
-fn hop(records: &[u8], next: &[u16], blocks: &[u64], l: u64, e: usize) -> usize
+fn hop(records: &[u8], next: &[u16], blocks: &[u64], l: u64, e: usize) -> Option<usize>
     requires { (l < locks) × (2 * e ≤ length records.now) × (length records.now ≤ records_length)
         × Linked (decode_all records.now) next.now × (length blocks.now ≡ 64) }
-    ensures { First (is_near (decode_all records.now) blocks.now l)
+    ensures { Earliest (is_near (decode_all records.now) blocks.now l)
         (length (decode_all records.now)) e result }
 {
-    let mut x = next[e] as usize;
-    while x != 0 {
+    let mut at = e;
+    while let Some(x) = link(next, at) {
         if recording::in_mask(blocks[x / 64], l) {
-            return x;
+            return Some(x);
         }
-        let end = x / 64 * 64 + 63;
-        if records.len() / 2 <= end {
-            return 0;
+        at = x / 64 * 64 + 63;
+        if records.len() / 2 <= at {
+            return None;
         }
-        x = next[end] as usize;
     }
-    0
+    None
 }
 
 // The first event after e that may follow a chain that ends with the acquire `last`, of these tasks and with
-// these held locks, or 0.
+// these held locks, if any.
 pub fn following(
     records: &[u8],
     holding: &[u64],
@@ -97,23 +103,23 @@ pub fn following(
     tasks: u64,
     guards: u64,
     e: usize,
-) -> usize
+) -> Option<usize>
     requires { (1 ≤ last) × (2 * last ≤ length records.now) × (2 * e ≤ length records.now)
         × (length records.now ≤ records_length) × ((check_events (decode_all records.now)).refusal ≡ 0)
         × Holding (decode_all records.now) holding.now × Linked (decode_all records.now) next.now
         × Marked (decode_all records.now) blocks.now × T (is_acquire (decode_all records.now) last) }
-    ensures { First (fits (signature (decode_all records.now)) (chain_of 0 last tasks guards))
+    ensures { Earliest (fits (signature (decode_all records.now)) (chain_of 0 last tasks guards))
         (length (decode_all records.now)) e result }
 {
     let l = recording::object(records, last) as u64;
-    let mut x = hop(records, next, blocks, l, e);
-    while x != 0 {
+    let mut at = e;
+    while let Some(x) = hop(records, next, blocks, l, at) {
         if deadlock::follows(records, holding, last, tasks, guards, x) {
-            return x;
+            return Some(x);
         }
-        x = hop(records, next, blocks, l, x);
+        at = x;
     }
-    0
+    None
 }
 
 // Notes the held locks of the acquire e with its lock, unless its task is t or it holds a guard.
@@ -140,7 +146,7 @@ fn note_lead(
         return;
     }
     let l = recording::object(records, e) as usize;
-    lead[l] = lead[l] | held;
+    lead[l] |= held;
 }
 
 // For each lock, the locks that are held at its acquires after event a, by other tasks than t and with none
@@ -160,10 +166,10 @@ pub fn note_leads(
         × (length lead.old ≡ locks) }
     ensures { Leading (decode_all records.now) a t guards lead.new }
 {
-    let mut e = next[a] as usize;
-    while e != 0 {
+    let mut at = a;
+    while let Some(e) = link(next, at) {
         note_lead(records, holding, a, t, guards, lead, e);
-        e = next[e] as usize;
+        at = e;
     }
 }
 
@@ -185,10 +191,8 @@ fn widen(lead: &[u64], mask: u64) -> u64
         → Covers (get_or lead.now m 0) result) }
 {
     let mut wide = mask;
-    let mut m = 0;
-    while m < 64 {
+    for m in 0..64 {
         wide = widen_by(lead, mask, m, wide);
-        m = m + 1;
     }
     wide
 }
@@ -202,10 +206,8 @@ fn fill_back(lead: &[u64], held: u64, back: &mut [u64], count: usize)
         × (get_or back.new 0 0 ≡ held) }
 {
     back[0] = held;
-    let mut i = 1;
-    while i < count {
+    for i in 1..count {
         back[i] = widen(lead, back[i - 1]);
-        i = i + 1;
     }
 }
 

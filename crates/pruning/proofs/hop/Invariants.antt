@@ -1,12 +1,13 @@
 -- `pruning::hop` meets its contract: no acquire of a block that was passed over is near. Assumes nothing.
+use Prim.Native.Nat.{◌-◌}
 use lib.ListN.{length}
 use Rattle.model.specs.Recording.{decode_all}
-use Rattle.laws.proofs.Firsts.{to_visit}
-use Rattle.pruning.proofs.Blocks.{Hopping}
+use Rattle.pruning.specs.Linked.{is_near}
+use Rattle.pruning.proofs.Walks.{Walked}
 use Rattle.pruning.proofs.hop.Given as goal
 
 abbrev pub invariant-loop-x : goal.invariant-loop-x
-invariant-loop-x l = Hopping (decode_all l.records) l.blocks l.l l.e l.x
+invariant-loop-x l = Walked (is_near (decode_all l.records) l.blocks l.l) (length (decode_all l.records)) l.e l.at
 
 abbrev pub decreases-loop-x : goal.decreases-loop-x
-decreases-loop-x l = to_visit (length (decode_all l.records)) l.x
+decreases-loop-x l = length (decode_all l.records) - l.at

@@ -1,4 +1,6 @@
--- `pruning::link_nested` meets its contract: the links after event e are in the table. Assumes nothing.
+-- `pruning::link_nested` meets its contract: the links of the events from e on are in the table. Assumes
+-- nothing.
+use Prim.Native.Nat.{◌-◌}
 use native.Mathlib.Omega.{arith}
 use Rattle.model.specs.Recording.{decode_all}
 use Rattle.laws.proofs.Trace.{decode_all-length}
@@ -8,15 +10,12 @@ use Rattle.pruning.proofs.link_nested.Goals as goal
 pub loop-e-init : goal.loop-e-init
 loop-e-init c =
     let b = c.args.records.now in
-    (omega arith, linked_last (decode_all b) c.args.next.now c.requires.3 _ (decode_all-length b))
+    linked_last (decode_all b) c.args.next.now c.requires.3 _ (omega (arith, decode_all-length b))
 
 pub loop-e-preserved : goal.loop-e-preserved
 loop-e-preserved c =
     let k = c.loop-e in
     let b = c.args.records.now in
-    let size = decode_all-length b in (
-      omega (arith, k.invariant.0),
-      linked_before (decode_all b) k.e k.top k.next k.invariant.1
-          (omega (arith, k.invariant.0, c.requires.0)) _ c.loop-e-test.true
-          (omega (arith, k.invariant.0)) c.nested_or-top.ensures,
-    )
+    let size = decode_all-length b in
+    linked_before (decode_all b) (k.e - 1) k.top k.next k.invariant (omega (arith, c.requires.0)) _
+    (omega arith) (omega arith) c.nested_or-top.ensures

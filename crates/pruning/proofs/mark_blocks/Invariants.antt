@@ -1,13 +1,12 @@
--- `pruning::mark_blocks` meets its contract: the blocks of the events before the next one are marked. Assumes
--- nothing.
+-- `pruning::mark_blocks` meets its contract: the blocks of the events so far are marked. Assumes nothing.
+use Prim.Native.Nat.{◌-◌}
 use lib.ListN.{length}
 use Rattle.model.specs.Recording.{decode_all}
-use Rattle.laws.proofs.Firsts.{to_visit}
 use Rattle.pruning.proofs.Blocks.{Marking}
 use Rattle.pruning.proofs.mark_blocks.Given as goal
 
 abbrev pub invariant-loop-e : goal.invariant-loop-e
-invariant-loop-e l = Marking (decode_all l.records) l.blocks l.e
+invariant-loop-e l = Marking (decode_all l.records) l.blocks l.at
 
 abbrev pub decreases-loop-e : goal.decreases-loop-e
-decreases-loop-e l = to_visit (length (decode_all l.records)) l.e
+decreases-loop-e l = length (decode_all l.records) - l.at

@@ -1,48 +1,43 @@
--- `pruning::note_leads` meets its contract: the acquires before event e are noted, and all of them where no
--- link leads on. Assumes nothing.
+-- `pruning::note_leads` meets its contract: the acquires so far are noted, and all of them where no link leads
+-- on. Assumes nothing.
 use native.Mathlib.Omega.{arith}
 use Rattle.model.specs.Recording.{decode_all}
-use Rattle.laws.proofs.Firsts.{to_visit_falls}
 use Rattle.laws.proofs.Trace.{decode_all-length}
-use Rattle.pruning.specs.Linked.{is_nested}
-use Rattle.pruning.proofs.Links.{nested_acquire}
-use Rattle.pruning.proofs.Leads.{led-start, led_link}
+use Rattle.pruning.proofs.Links.{nested_acquire, linked_earliest}
+use Rattle.pruning.proofs.Leads.{led-start, led_link, led_end}
 use Rattle.pruning.proofs.note_leads.Goals as goal
 
 pub loop-e-init : goal.loop-e-init
 loop-e-init c =
-    let a = c.args in
-    let size = decode_all-length a.records.now in
-    led_link (decode_all a.records.now) a.a a.t a.guards a.lead.now a.a _
-    (led-start (decode_all a.records.now) a.a a.t a.guards a.lead.now c.requires.5)
-    (c.requires.4.link a.a (omega (arith, c.requires.0)))
+    let a = c.args in (
+      omega (arith, c.requires.0, decode_all-length a.records.now),
+      led-start (decode_all a.records.now) a.a a.t a.guards a.lead.now c.requires.5,
+    )
+
+pub link-requires : goal.link-requires
+link-requires c =
+    omega (arith, c.loop-e.invariant.0, c.requires.4.long, c.requires.1, decode_all-length c.args.records.now)
 
 pub note_lead-requires : goal.note_lead-requires
 note_lead-requires c =
-    let k = c.loop-e in
-    let event = k.invariant.event c.loop-e-test.true in
-    let size = decode_all-length c.args.records.now in (
-      omega (arith, c.loop-e-test.true),
-      omega (arith, event.0),
+    let a = c.args in
+    let b = a.records.now in
+    let l = c.loop-e in
+    let (d, y) = linked_earliest (decode_all b) a.next.now c.requires.4 l.at l.invariant.0 _ c.in-Some.ensures in
+    let e = y.passes d in
+    let size = decode_all-length b in (
+      omega (arith, e.0),
+      omega (arith, e.1),
       c.requires.1,
       c.requires.2,
       c.requires.3,
-      nested_acquire _ k.e event.1,
-      k.invariant.noted c.loop-e-test.true,
+      nested_acquire _ c.in-Some.e e.2,
+      led_link (decode_all b) a.a a.t a.guards l.lead l.at l.invariant.1 c.in-Some.e y,
     )
 
-pub loop-e-smaller : goal.loop-e-smaller
-loop-e-smaller c =
-    let k = c.loop-e in
-    let taken = c.loop-e-test.true in
-    let event = k.invariant.event taken in
-    let size = decode_all-length c.args.records.now in
-    rw (← size) (to_visit_falls (is_nested (decode_all c.args.records.now)) _ k.e _
-    (c.requires.4.link k.e event.0) taken event.0)
-
-pub loop-e-preserved : goal.loop-e-preserved
-loop-e-preserved c =
-    let k = c.loop-e in
-    let event = k.invariant.event c.loop-e-test.true in
-    led_link (decode_all c.args.records.now) c.args.a c.args.t c.args.guards _ k.e _
-    c.note_lead.ensures (c.requires.4.link k.e event.0)
+pub returns : goal.returns
+returns c =
+    let a = c.args in
+    let l = c.loop-e in
+    led_end (decode_all a.records.now) a.a a.t a.guards l.lead l.at l.invariant.1
+    (linked_earliest (decode_all a.records.now) a.next.now c.requires.4 l.at l.invariant.0 _ c.in_default.ensures)

@@ -1,10 +1,6 @@
 -- `pruning::widen` meets its contract: the locks that lead to those so far are in the mask. Assumes nothing.
-use Prim.Native.Nat.{◌-◌, ◌≤◌}
 use Rattle.pruning.proofs.Spreads.{Widened}
 use Rattle.pruning.proofs.widen.Given as goal
 
 abbrev pub invariant-loop-m : goal.invariant-loop-m
-invariant-loop-m l = (l.m ≤ 64) × Widened l.lead l.mask l.m l.wide
-
-abbrev pub decreases-loop-m : goal.decreases-loop-m
-decreases-loop-m l = 64 - l.m
+invariant-loop-m l = Widened l.lead l.mask l.m l.wide
