@@ -1,11 +1,12 @@
 -- What an attempt at one event more of a path decides. Assumes nothing.
 use Prim.Native.Nat.{ℕ, suc, ◌≤◌, ◌<◌}
 use mathlib.Core.Path.{◌≡◌, refl, sym, ap, ◌∙◌}
-use mathlib.Core.Logic.{⊎_elim, ◌≢◌}
+use mathlib.Core.Logic.{◌⊎◌, inl, inr, ⊎_elim, ◌≢◌}
 use mathlib.Core.Bool.{Bool, true, false, not, ◌&&◌, and-true}
 use mathlib.Core.List.{List, [], ◌∷◌, ◌++◌}
 use native.Mathlib.Omega.{arith}
 use lib.Dec.{T, T_not, not_T, leb}
+use Rattle.std.specs.Prelude.{Option, Some, None}
 use lib.ListN.{length, get_or}
 use Rattle.model.specs.Lists.{all, has_bit}
 use Rattle.model.specs.Trace.{Trace, task, object, is_event}
@@ -22,6 +23,7 @@ use Rattle.laws.proofs.Trace.{is_event_iff}
 use Rattle.laws.proofs.WellFormed.{WellFormed}
 use Rattle.laws.proofs.Pattern.{events_inside}
 use Rattle.laws.proofs.Before.{before-extend, before_deadlock}
+use Rattle.chain.specs.declared.Trial.TheVariants.{Success, Failure, TaskFailure, Skipped}
 use Rattle.chain.specs.Attempted.{Along, Reusable, Attempted}
 
 -- ---- what is decided of one event more
@@ -36,14 +38,14 @@ path_more σ p e t h k =
 module _ (σ : Trace) (k : ℕ) (p : List ℕ) (first e : ℕ) where
   -- A lock that does not lead back.
   pub attempted_nowhere : (back grown newest : List ℕ) → Returning σ first (suc k) back
-      → has_bit (get_or back k 0) (object σ e) ≡ false → Attempted σ k p first e 3 grown newest
+      → has_bit (get_or back k 0) (object σ e) ≡ false → Attempted σ k p first e Skipped grown newest
   attempted_nowhere back grown newest z h = record {
-    deadlock = λ q. absurd (omega arith);
+    deadlock = λ q. cc;
     grows = λ d. absurd (d refl);
     dropped = λ d c a.
         branch_nowhere σ k c e (rw a.begins (unclosed c a)) (z.nowhere k (omega arith)
         (add (signature σ) c e) a.begins (add_rooted σ c e a.rooted) h);
-    later = λ q. absurd (omega arith);
+    later = λ q. cc;
   }
     where
       unclosed : (c : Chain) → Along σ p first c → has_bit (held σ first) (object σ e) ≡ false
@@ -65,9 +67,9 @@ module _ (σ : Trace) (k : ℕ) (p : List ℕ) (first e : ℕ) where
 
     -- The closure has an event of the path.
     pub attempted_met : all (λ f. not (leb f (get_or grown (task σ f) 0))) p ≡ false
-        → Attempted σ k p first e 2 grown newest
+        → Attempted σ k p first e TaskFailure grown newest
     attempted_met h = record {
-      deadlock = λ q. absurd (omega arith);
+      deadlock = λ q. cc;
       grows = λ d. z;
       dropped = λ d c a. branch-not σ k c e (rw (a.events, verdict, h));
       later = λ q c a f l m s. branch-not σ k c f (rw a.events (after f l m s));
@@ -83,51 +85,56 @@ module _ (σ : Trace) (k : ℕ) (p : List ℕ) (first e : ℕ) where
 
     module _ (h : all (λ f. not (leb f (get_or grown (task σ f) 0))) p ≡ true) where
       -- It has the event itself.
-      pub attempted_itself : leb e (get_or grown (task σ e) 0) ≡ true → Attempted σ k p first e 1 grown newest
+      pub attempted_itself : leb e (get_or grown (task σ e) 0) ≡ true → Attempted σ k p first e Failure grown newest
       attempted_itself y = record {
-        deadlock = λ q. absurd (omega arith);
+        deadlock = λ q. cc;
         grows = λ d. z;
         dropped = λ d c a. branch-not σ k c e (rw (a.events, verdict, h, y));
-        later = λ q. absurd (omega arith);
+        later = λ q. cc;
       }
 
       -- It has none of the events.
-      pub attempted_deadlock : leb e (get_or grown (task σ e) 0) ≡ false → Attempted σ k p first e 0 grown
+      pub attempted_deadlock : leb e (get_or grown (task σ e) 0) ≡ false → Attempted σ k p first e Success grown
           newest
       attempted_deadlock n = record {
         deadlock = λ q. rw (verdict, h, n);
         grows = λ d. z;
         dropped = λ d. absurd (d refl);
-        later = λ q. absurd (omega arith);
+        later = λ q. cc;
       }
 
 -- ---- the frontier from which another is reached
 
-module _ (σ : Trace) (of e : ℕ) (front latest grown newest base top : List ℕ)
-    (kept : task σ e ≡ of → (base ≡ grown) × (top ≡ newest))
-    (copied : task σ e ≢ of → (base ≡ front) × (top ≡ latest)) where
+-- A task is the one that is kept, or is not.
+kept? : (of : Option ℕ) (t : ℕ) → (of ≡ Some t) ⊎ (of ≢ Some t)
+kept? None t = inr (λ q. cc)
+kept? (Some u) t = ⊎_elim (λ (q : u ≡ t). inl (ap Some q)) (λ (d : u ≢ t). inr (λ q. d (cc))) (equal? u t)
+
+module _ (σ : Trace) (of : Option ℕ) (e : ℕ) (front latest grown newest base top : List ℕ)
+    (kept : of ≡ Some (task σ e) → (base ≡ grown) × (top ≡ newest))
+    (copied : of ≢ Some (task σ e) → (base ≡ front) × (top ≡ latest)) where
   -- It is at rest.
-  pub grow_settled : Settled σ front front latest → (task σ e ≡ of → Settled σ grown grown newest)
-      → Settled σ base base top
+  pub grow_settled : Settled σ front front latest
+      → (of ≡ Some (task σ e) → Settled σ grown grown newest) → Settled σ base base top
   grow_settled z y =
       ⊎_elim (λ q. let (i, j) = kept q in rw (i, j) (y q)) (λ d. let (i, j) = copied d in rw (i, j) z)
-      (equal? (task σ e) of)
+      (kept? of (task σ e))
 
   -- Extended by the predecessor of e, it is that of the predecessors of the events and e.
   pub grow_reaches : WellFormed σ → (front' latest' : List ℕ) → 1 ≤ e → e ≤ length σ
       → Advanced σ (wanted σ base (predecessor σ e)) front' latest' → (p : List ℕ)
       → T (all (is_event σ) p) → Reusable σ p of e front latest grown newest
       → Before σ (p ++ e ∷ []) front' latest'
-  grow_reaches ok front' latest' h l a p t z = ⊎_elim again anew (equal? (task σ e) of)
+  grow_reaches ok front' latest' h l a p t z = ⊎_elim again anew (kept? of (task σ e))
     where
-      again : task σ e ≡ of → Before σ (p ++ e ∷ []) front' latest'
+      again : of ≡ Some (task σ e) → Before σ (p ++ e ∷ []) front' latest'
       again q =
           let (i, j) = kept q in
           let (d, low, less, same, before) = z.again q in
           before-again σ ok p grown newest d e front' latest' before low less same
           (events_inside σ (p ++ e ∷ []) (path_more σ p e t h l)) (rw i at a)
 
-      anew : task σ e ≢ of → Before σ (p ++ e ∷ []) front' latest'
+      anew : of ≢ Some (task σ e) → Before σ (p ++ e ∷ []) front' latest'
       anew d =
           let (i, j) = copied d in
           before-extend σ ok p front latest e front' latest' z.before h l (rw i at a)

@@ -2,9 +2,8 @@
 // event, and the closure of the predecessors with it.
 #![tactic(auto)]
 
-ghost use Rattle.std.specs.Prelude.{ℕ, suc, ◌*◌, ◌^◌, ◌<◌, ◌≤◌, ◌≡◌, ◌≢◌, cond, not, List, [], ◌∷◌, ◌++◌, T};
-ghost use Rattle.std.specs.Prelude.{eqb, leb, length, get_or, take};
-ghost use Rattle.std.specs.Int.Bits.{bit_or};
+ghost use Rattle.std.specs.Prelude.{ℕ, suc, ◌*◌, ◌<◌, ◌≤◌, ◌≡◌, ◌≢◌, not, List, [], ◌∷◌, ◌++◌, T};
+ghost use Rattle.std.specs.Prelude.{leb, length, get_or, take};
 ghost use Rattle.model.specs.Lists.{all, has_bit};
 ghost use Rattle.model.specs.Trace.{tasks, task, object, is_event, is_acquire};
 ghost use Rattle.model.specs.Recording.{decode_all};
@@ -14,7 +13,17 @@ ghost use Rattle.laws.specs.Sizes.{records_length};
 ghost use Rattle.laws.specs.Frontier.{Settled, Before};
 ghost use Rattle.laws.specs.Returning.{Returning};
 ghost use Rattle.frontier.specs.Visit.{Needed};
-ghost use Rattle.chain.specs.Attempted.{Reusable, Attempted};
+ghost use Rattle.chain.specs.Attempted.{Reusable, Attempted, excluded_after, reused_after};
+
+// What is found of an acquire after the events of a path: with them it is a deadlock so far; it leads nowhere; nor
+// do the later events of its task; or it leads nowhere, and its closure was not asked for.
+#[derive(Clone, Copy, Debug, PartialEq, Eq, Hash)]
+pub enum Trial {
+    Success,
+    Failure,
+    TaskFailure,
+    Skipped,
+}
 
 // Copies a frontier, unless the other one is that of an earlier event of e's task.
 fn renew(
@@ -23,16 +32,16 @@ fn renew(
     latest: &[u16; 64],
     grown: &mut [u16; 16],
     newest: &mut [u16; 64],
-    of: u8,
+    of: Option<u8>,
     e: usize,
 )
     requires { (1 ≤ e) × (2 * e ≤ length records.now) }
-    ensures kept { task (decode_all records.now) e ≡ of
+    ensures kept { of ≡ Some (task (decode_all records.now) e)
         → (grown.new ≡ grown.old) × (newest.new ≡ newest.old) }
-    ensures copied { task (decode_all records.now) e ≢ of
+    ensures copied { of ≢ Some (task (decode_all records.now) e)
         → (grown.new ≡ front.now) × (newest.new ≡ latest.now) }
 {
-    if recording::task(records, e) == of {
+    if of == Some(recording::task(records, e)) {
         return;
     }
     *grown = *front;
@@ -50,13 +59,13 @@ pub fn grow(
     latest: &[u16; 64],
     grown: &mut [u16; 16],
     newest: &mut [u16; 64],
-    of: u8,
+    of: Option<u8>,
     e: usize,
 )
     requires { (length records.now ≤ records_length) × ((check_events (decode_all records.now)).refusal ≡ 0)
         × Needed (decode_all records.now) predecessors.now writers.now matches.now
         × Settled (decode_all records.now) front.now front.now latest.now
-        × (task (decode_all records.now) e ≡ of
+        × (of ≡ Some (task (decode_all records.now) e)
         → Settled (decode_all records.now) grown.old grown.old newest.old)
         × (1 ≤ e) × (2 * e ≤ length records.now) }
     ensures { (p : List ℕ) → T (all (is_event (decode_all records.now)) p)
@@ -87,20 +96,16 @@ fn avoids_path(records: &[u8], path: &[u16], len: usize, front: &[u16]) -> bool
         (task (decode_all records.now) f) 0)))
         (take len path.now) }
 {
-    let mut i = 0;
-    while i < len {
-        if frontier::contains(records, front, path[i] as usize) {
+    for e in &path[..len] {
+        if frontier::contains(records, front, *e as usize) {
             return false;
         }
-        i = i + 1;
     }
     true
 }
 
-// Attempts the acquire e after the events of the path, with at most k more after it: 0 where they are a
-// deadlock so far, 1 where e leads nowhere, and 2 where the later events of its task do not either, each with
-// the frontier of the closure of their predecessors; and 3 where e leads nowhere and the frontier is as
-// before.
+// Attempts the acquire e after the events of the path, with at most k more after it. The frontier becomes that of
+// the closure of their predecessors, unless e is skipped: then it is as before.
 pub fn attempt(
     records: &[u8],
     predecessors: &[u16],
@@ -114,9 +119,9 @@ pub fn attempt(
     latest: &[u16; 64],
     grown: &mut [u16; 16],
     newest: &mut [u16; 64],
-    of: u8,
+    of: Option<u8>,
     e: usize,
-) -> u64
+) -> Trial
     requires { (length records.now ≤ records_length) × ((check_events (decode_all records.now)).refusal ≡ 0)
         × Needed (decode_all records.now) predecessors.now writers.now matches.now
         × Returning (decode_all records.now) (get_or path.now 0 0) (suc k) back.now
@@ -126,10 +131,10 @@ pub fn attempt(
         × (1 ≤ e) × (2 * e ≤ length records.now) × T (is_acquire (decode_all records.now) e) }
     ensures { Attempted (decode_all records.now) k (take len path.now)
         (get_or path.now 0 0) e result grown.new newest.new
-        × (result ≡ 3 → (grown.new ≡ grown.old) × (newest.new ≡ newest.old)) }
+        × (result ≡ Trial.Skipped → (grown.new ≡ grown.old) × (newest.new ≡ newest.old)) }
 {
     if !deadlock::lock_in_mask(records, back[k], e) {
-        return 3;
+        return Trial::Skipped;
     }
     grow(
         records,
@@ -144,35 +149,34 @@ pub fn attempt(
         e,
     );
     if !avoids_path(records, path, len, grown) {
-        return 2;
+        return Trial::TaskFailure;
     }
     if frontier::contains(records, grown, e) {
-        return 1;
+        return Trial::Failure;
     }
-    0
+    Trial::Success
 }
 
 // The tasks whose later events are passed over, after event e was attempted.
-pub fn exclude(records: &[u8], excluded: u64, met: u64, e: usize) -> u64
+pub fn exclude(records: &[u8], excluded: u64, met: Trial, e: usize) -> u64
     requires { (1 ≤ e) × (2 * e ≤ length records.now) }
-    ensures { result ≡ cond (eqb met 2)
-        (bit_or excluded (2 ^ (task (decode_all records.now) e))) excluded }
+    ensures { result ≡ excluded_after (decode_all records.now) excluded met e }
 {
-    if met != 2 {
-        return excluded;
+    match met {
+        Trial::TaskFailure => deadlock::with_task(records, excluded, e),
+        _ => excluded,
     }
-    deadlock::with_task(records, excluded, e)
 }
 
-// The task whose frontier is kept after event e was attempted.
-pub fn reused(records: &[u8], of: u8, met: u64, e: usize) -> u8
+// The task whose frontier is kept, if any, after event e was attempted.
+pub fn reused(records: &[u8], of: Option<u8>, met: Trial, e: usize) -> Option<u8>
     requires { (1 ≤ e) × (2 * e ≤ length records.now) }
-    ensures { result ≡ cond (eqb met 3) of (task (decode_all records.now) e) }
+    ensures { result ≡ reused_after (decode_all records.now) of met e }
 {
-    if met == 3 {
-        return of;
+    match met {
+        Trial::Skipped => of,
+        _ => Some(recording::task(records, e)),
     }
-    recording::task(records, e)
 }
 
 // The lock of the acquire e is held at the chain's first event.

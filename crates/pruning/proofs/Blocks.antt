@@ -60,25 +60,12 @@ module _ (σ : Trace) where
             (λ (l : at < f). absurd (T_not (is_nested σ f) (rw (y.between f l (omega arith)) tt) t))
             (at-most? f at)
 
-    -- At the end all are.
-    pub marking_end : Link σ at 0 → Marked σ blocks
-    marking_end y = record {
-      long = z.long;
-      marks = λ f h t. ⊎_elim (λ (l : f ≤ at). z.marks f l t)
-          (λ (l : at < f). absurd (T_not (is_nested σ f) (rw (y.ends refl f l h) tt) t)) (at-most? f at);
-    }
-
   -- ---- passing over
 
   module _ (blocks : List ℕ) (l : ℕ) where
     -- An event that is not nested is not near.
     pub nested_near : (f : ℕ) → is_nested σ f ≡ false → is_near σ blocks l f ≡ false
     nested_near f n = rw n
-
-    -- One in a block that is marked is.
-    pub near_marked : (x : ℕ) → T (is_nested σ x) → has_bit (get_or blocks (x / 64) 0) l ≡ true
-        → is_near σ blocks l x ≡ true
-    near_marked x t y = rw (is_true (is_nested σ x) t, y)
 
     -- In another block none is.
     pub near_missed : (x : ℕ) → has_bit (get_or blocks (x / 64) 0) l ≡ false → (end : ℕ)

@@ -34,7 +34,7 @@ returns-then-not-avoids_path c = (
       ))
       (grown (goal.at.returns-then-not-avoids_path c).After-grow)
       (sym c.avoids_path.ensures ∙ c.if-not-avoids_path.true),
-  (λ q. absurd (omega arith)),
+  (λ q. cc),
 )
 
 pub returns-then-contains : goal.returns-then-contains
@@ -47,7 +47,7 @@ returns-then-contains c = (
       (grown (goal.at.returns-then-contains c).After-grow)
       (sym c.avoids_path.ensures ∙ c.if-not-avoids_path.false)
       (sym c.contains.ensures ∙ c.if-contains.true),
-  (λ q. absurd (omega arith)),
+  (λ q. cc),
 )
 
 pub returns : goal.returns
@@ -60,5 +60,5 @@ returns c = (
       (grown (goal.at.returns c).After-grow)
       (sym c.avoids_path.ensures ∙ c.if-not-avoids_path.false)
       (sym c.contains.ensures ∙ c.if-contains.false),
-  (λ q. absurd (omega arith)),
+  (λ q. cc),
 )
