@@ -2,8 +2,8 @@
 // schedule that witnesses it. A pattern's numbers are two bytes each.
 #![tactic(auto)]
 
-ghost use Rattle.std.specs.Prelude.{ℕ, List, ◌+◌, ◌*◌, ◌/◌, ◌^◌, ◌<◌, ◌≤◌, ◌≡◌, not, ◌&&◌, [], T, leb, length, get_or};
-ghost use Rattle.std.specs.Prelude.{drop, replicate, Some};
+ghost use Rattle.std.specs.Prelude.{ℕ, ◌+◌, ◌*◌, ◌/◌, ◌^◌, ◌<◌, ◌≤◌, ◌≡◌, not, ◌&&◌, List, [], T, leb};
+ghost use Rattle.std.specs.Prelude.{length, get_or, drop, replicate, Some};
 ghost use Rattle.std.specs.Int.Bits.{bit_or};
 ghost use Rattle.std.proofs.lemmas.List.Edits.{sets};
 ghost use Rattle.model.specs.Lists.{all, has_bit};
@@ -245,7 +245,8 @@ pub fn decide(
         × Needed (decode_all records.now) predecessors.now writers.now matches.now
         × (front.old ≡ replicate tasks 0) }
     ensures decided { result ≡ judged (decode_all records.now) pattern.now }
-    ensures reached { result ≡ Some Deadlock → Reached (decode_all records.now) (numbers pattern.now) front.new }
+    ensures reached { result ≡ Some Deadlock
+        → Reached (decode_all records.now) (numbers pattern.now) front.new }
 {
     if !lends_pattern(records, holding, pattern) {
         return None;
@@ -278,7 +279,8 @@ fn judge(records: &[u8], pattern: &[u8], front: &mut [u16]) -> Option<Verdict>
     requires { (length records.now ≤ records_length) × ((check_events (decode_all records.now)).refusal ≡ 0)
         × (front.old ≡ replicate tasks 0) }
     ensures decided { result ≡ judged (decode_all records.now) pattern.now }
-    ensures reached { result ≡ Some Deadlock → Reached (decode_all records.now) (numbers pattern.now) front.new }
+    ensures reached { result ≡ Some Deadlock
+        → Reached (decode_all records.now) (numbers pattern.now) front.new }
 {
     let mut operations = [0u8; 4096];
     let mut tasks = [0u8; 4096];

@@ -1,10 +1,11 @@
 -- What visiting an event leaves, by its operation and the latest acquire of its lock. Assumes nothing.
 use Prim.Native.Nat.{ℕ, ◌*◌, ◌≤◌, min}
-use mathlib.Core.Path.{◌≡◌, refl, ◌∙◌}
-use mathlib.Core.Bool.{true, false}
+use mathlib.Core.Path.{◌≡◌, refl, sym, ap, ◌∙◌}
+use mathlib.Core.Bool.{true, false, cond}
 use mathlib.Core.Logic.{◌≢◌}
 use mathlib.Core.List.{List}
 use native.Mathlib.Omega.{arith}
+use lib.Dec.{eqb}
 use lib.ListN.{length, get_or}
 use borrow.Author.Tests.{eq-eqb, ne_eqb}
 use Rattle.model.specs.Trace.{Trace, task, object, is_acquire}
@@ -22,12 +23,20 @@ use Rattle.frontier.specs.Visit.{wanted_earlier, latest_with, wanted_with}
 
 -- ---- operations
 
--- The number of one that is no acquire is not an acquire's.
-pub code_other : (o : Op) → o ≢ Acquire → code o ≢ 2
-code_other Read d = omega arith
-code_other Write d = omega arith
-code_other Acquire d = absurd (d refl)
-code_other Release d = omega arith
+-- The operation with a number.
+op_of : ℕ → Op
+op_of n = cond (eqb n 0) Read (cond (eqb n 1) Write (cond (eqb n 2) Acquire Release))
+
+op_of_code : (o : Op) → op_of (code o) ≡ o
+unfolding op_of
+op_of_code Read = refl
+op_of_code Write = refl
+op_of_code Acquire = refl
+op_of_code Release = refl
+
+-- Two operations have two numbers.
+pub code_apart : (o p : Op) → o ≢ p → code o ≢ code p
+code_apart o p d q = d (sym (op_of_code o) ∙ ap op_of q ∙ op_of_code p)
 
 -- ---- by what the event is
 

@@ -42,5 +42,7 @@ latest_with σ latest f = cond (is_acquire σ f) (raised latest (object σ f) f)
 
 -- The first task whose wanted event the frontier has not reached, or that there is none.
 abbrev pub Unreached : List ℕ → List ℕ → Option ℕ → Type 0
-Unreached front want (Some t) = (t < tasks) × (get_or front t 0 < get_or want t 0)
+Unreached front want (Some t) =
+    (t < tasks) × (get_or front t 0 < get_or want t 0)
+    × ((u : ℕ) → u < t → get_or want u 0 ≤ get_or front u 0)
 Unreached front want None = (t : ℕ) → t < tasks → get_or want t 0 ≤ get_or front t 0

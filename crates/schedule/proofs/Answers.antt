@@ -2,12 +2,14 @@
 use Prim.Native.Nat.{ℕ}
 use mathlib.Core.Path.{◌≡◌}
 use mathlib.Core.Logic.{◌≢◌}
-use mathlib.Core.Bool.{Bool, true, false, cond, ◌&&◌}
+use mathlib.Core.Bool.{true, false, ◌&&◌}
 use mathlib.Core.List.{List}
-use native.Mathlib.Omega.{arith}
-use lib.Dec.{eqb}
 use borrow.Author.Tests.{eq-eqb, ne_eqb}
-use Rattle.model.specs.Answers.{Checked}
+use Rattle.std.specs.Prelude.{Some, None}
+use Rattle.std.proofs.Common.{ok_or}
+use Rattle.model.specs.declared.Question.TheVariants.{Pattern}
+use Rattle.model.specs.Refused.{refusal}
+use Rattle.model.specs.Answers.{checked_of}
 use Rattle.model.specs.Bytes.{numbers, is_whole}
 use Rattle.model.specs.Trace.{Trace}
 use Rattle.model.specs.Recording.{trace}
@@ -24,46 +26,30 @@ use Rattle.schedule.specs.Listed.{answered}
 
 module _ (σ : Trace) (p ρ : List ℕ) where
   -- Bytes that are no pattern.
-  pub answered-none : (is_whole p && is_pattern σ (numbers p)) ≡ false → 0 ≡ answered σ p ρ
+  pub answered-none : (is_whole p && is_pattern σ (numbers p)) ≡ false → answered σ p ρ ≡ None
   unfolding answered
   answered-none n = rw n
 
-  module _ (y : (is_whole p && is_pattern σ (numbers p)) ≡ true) where
-    -- The schedule decides.
-    pub answered_some : (v : Bool) → v ≡ (is_whole ρ && witnesses σ (numbers ρ) (numbers p))
-        → cond v 2 1 ≡ answered σ p ρ
-    unfolding answered
-    answered_some v q = rw (y, q)
+  -- Of a pattern the schedule decides.
+  pub answered_some : (is_whole p && is_pattern σ (numbers p)) ≡ true
+      → answered σ p ρ ≡ Some (is_whole ρ && witnesses σ (numbers ρ) (numbers p))
+  unfolding answered
+  answered_some y = rw y
 
 -- ---- the call
-
--- A refused answer.
-abbrev pub refused_checked : ℕ → ℕ → Checked
-refused_checked refusal event = record { refusal = refusal; event = event; valid = false }
 
 module _ (b p ρ : List ℕ) where
   -- A recording that is refused.
   pub checked_unchecked : (check b).refusal ≢ 0
-      → check_schedule b p ρ ≡ refused_checked (check b).refusal (check b).event
+      → check_schedule b p ρ
+      ≡ record { refusal = (check b).refusal; event = (check b).event; valid = false }
   unfolding check_schedule verdict_refusal
   checked_unchecked d = rw (ne_eqb (check b).refusal 0 d, ne_eqb (check b).refusal 0 d)
 
-  module _ (c : (check b).refusal ≡ 0) where
-    -- 10: no pattern.
-    pub checked-none : answered (trace b) p ρ ≡ 0 → check_schedule b p ρ ≡ refused_checked 10 0
-    unfolding check_schedule verdict_refusal lends_pattern answered
-    checked-none q =
-        decided (is_whole p && is_pattern (trace b) (numbers p))
-        (λ y. absurd (decided (is_whole ρ && witnesses (trace b) (numbers ρ) (numbers p))
-        (λ z. omega (arith, rw (y, z) at q)) (λ z. omega (arith, rw (y, z) at q))))
-        (λ n. rw (eq-eqb (check b).refusal 0 c, n))
-
-    -- The answer for a pattern.
-    pub checked_some : answered (trace b) p ρ ≢ 0
-        → check_schedule b p ρ ≡ record { refusal = 0; event = 0; valid = eqb (answered (trace b) p ρ) 2 }
-    unfolding check_schedule verdict_refusal lends_pattern answered
-    checked_some d =
-        decided (is_whole p && is_pattern (trace b) (numbers p))
-        (λ y. decided (is_whole ρ && witnesses (trace b) (numbers ρ) (numbers p))
-        (λ z. rw (eq-eqb (check b).refusal 0 c, y, z)) (λ z. rw (eq-eqb (check b).refusal 0 c, y, z)))
-        (λ n. absurd (d (rw n)))
+  -- Of an accepted one what is decided of the bytes.
+  pub checked_accepted : (check b).refusal ≡ 0
+      → checked_of (ok_or (answered (trace b) p ρ) (refusal Pattern 0)) ≡ check_schedule b p ρ
+  unfolding check_schedule verdict_refusal lends_pattern answered
+  checked_accepted c =
+      let y = eq-eqb (check b).refusal 0 c in
+      decided (is_whole p && is_pattern (trace b) (numbers p)) (λ w. rw (y, w)) (λ n. rw (y, n))

@@ -43,9 +43,9 @@ module _ (σ : Trace) (last : List ℕ) (e : ℕ) where
   ready-none q = rw (eq-eqb e 0 q)
 
   -- or listed.
-  pub ready_some : (t : ℕ) → t ≡ task σ e → e ≢ 0 → leb e (get_or last t 0) ≡ is_ready σ last e
+  pub ready_some : e ≢ 0 → is_listed σ last e ≡ is_ready σ last e
   unfolding is_ready
-  ready_some t q d = rw (ne_eqb e 0 d, q)
+  ready_some d = rw (ne_eqb e 0 d)
 
   module _ {p t : ℕ} (q : p ≡ predecessor σ e) (r : t ≡ task σ e) where
     -- An event is next where its predecessor is the latest listed event of its task,

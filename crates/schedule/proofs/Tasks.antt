@@ -57,11 +57,7 @@ module _ (σ : Trace) (ρ last : List ℕ) (u : UpTo σ ρ last) where
 
       some : x ≢ 0 → T (is_ready σ last x) ↔ (x ≢ 0 → Memᴰ x ρ)
       some d =
-          let rule = listed_iff x (omega arith) k in
-          rw (ne_eqb x 0 d) (
-            λ t _. rule.1 (leb→le x (get_or last (task σ x) 0) t),
-            λ m. le→leb x (get_or last (task σ x) 0) (rule.0 (m d)),
-          )
+          let rule = is_listed_iff x k in rw (ne_eqb x 0 d) (λ t _. rule.0 t, λ m. rule.1 (m d))
 
   -- With an event all earlier ones of its task are listed, and its start.
   downward : Downward σ (λ f. Memᴰ f ρ)

@@ -1,6 +1,7 @@
 -- The tables of a walk through a schedule, by what they hold of what is listed, and what is decided of the
--- lent bytes, as one number. `before` is what is listed, the latest first.
-use Rattle.std.specs.Prelude.{ℕ, ◌≤◌, ◌<◌, ◌≡◌, ◌≢◌, cond, ◌&&◌, T, leb, length, get_or}
+-- lent bytes. `before` is what is listed, the latest first.
+use Rattle.std.specs.Prelude.{ℕ, ◌≤◌, ◌<◌, ◌≡◌, ◌≢◌, Bool, cond, ◌&&◌, Option, Some, None, T, leb, length}
+use Rattle.std.specs.Prelude.{get_or}
 use mathlib.Core.List.{List, Memᴰ}
 use Rattle.model.specs.Lists.{member}
 use Rattle.model.specs.Bytes.{numbers, is_whole}
@@ -47,9 +48,9 @@ pub record Ready (σ : Trace) (last acquires writes : List ℕ) : Type 0 where
   pub write_long : length writes ≡ variables
   pub acquire_small : (l : ℕ) → l < locks → get_or acquires l 0 ≤ length σ
 
--- What is decided of the bytes of a pattern and a schedule: 0 for no pattern (question 10 is answered "no"),
--- 1 for the checker's "no", 2 for its "yes".
-unfoldable pub answered : Trace → List ℕ → List ℕ → ℕ
+-- What is decided of the bytes of a pattern and a schedule: the checker's answer, or none for no pattern
+-- (question 10 is answered "no").
+unfoldable pub answered : Trace → List ℕ → List ℕ → Option Bool
 answered σ p ρ =
-    cond (is_whole p && is_pattern σ (numbers p)) (cond (is_whole ρ && witnesses σ (numbers ρ) (numbers p)) 2
-    1) 0
+    cond (is_whole p && is_pattern σ (numbers p))
+    (Some (is_whole ρ && witnesses σ (numbers ρ) (numbers p))) None

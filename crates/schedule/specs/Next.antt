@@ -11,7 +11,7 @@ is_listed σ last e = cond (eqb e 0) false (leb e (get_or last (task σ e) 0))
 
 -- What an event awaits is there: it is 0, or listed.
 unfoldable pub is_ready : Trace → List ℕ → ℕ → Bool
-is_ready σ last x = cond (eqb x 0) true (leb x (get_or last (task σ x) 0))
+is_ready σ last x = cond (eqb x 0) true (is_listed σ last x)
 
 -- The event is enabled (01: next): its predecessor is the latest listed event of its task, or where none of
 -- that is listed, a listed event of another one, its start.

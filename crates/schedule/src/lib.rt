@@ -13,21 +13,22 @@ ghost use Rattle.model.specs.Bytes.{numbers, is_whole};
 ghost use Rattle.model.specs.Schedule.{may_follow, sync_preserving, witnesses};
 ghost use Rattle.model.specs.Calls.Check.{check_events};
 ghost use Rattle.model.specs.Calls.CheckSchedule.{check_schedule};
+ghost use Rattle.model.specs.Answers.{checked_of};
 ghost use Rattle.laws.specs.Sizes.{records_length, table_length, order_length};
 ghost use Rattle.frontier.specs.Visit.{Needed};
 ghost use Rattle.deadlock.specs.Judged.{Holding};
 ghost use Rattle.schedule.specs.Listed.{UpTo, Listed, Ready, answered};
 ghost use Rattle.schedule.specs.Next.{is_listed, is_ready, is_next, is_unlocked};
 
+use model::{Question, Refusal};
+use recording::Op;
+
 // Whether event e is listed: not 0, and no later than the latest listed event of its task.
 fn is_listed(records: &[u8], last: &[u16], e: u16) -> bool
     requires { (2 * e ≤ length records.now) × (length last.now ≡ tasks) }
     ensures { result ≡ is_listed (decode_all records.now) last.now e }
 {
-    if e == 0 {
-        return false;
-    }
-    e <= last[recording::task(records, e as usize) as usize]
+    e != 0 && e <= last[recording::task(records, e as usize) as usize]
 }
 
 // Whether what an event awaits is there: it is 0, or listed.
@@ -35,10 +36,7 @@ fn is_ready(records: &[u8], last: &[u16], x: u16) -> bool
     requires { (2 * x ≤ length records.now) × (length last.now ≡ tasks) }
     ensures { result ≡ is_ready (decode_all records.now) last.now x }
 {
-    if x == 0 {
-        return true;
-    }
-    x <= last[recording::task(records, x as usize) as usize]
+    x == 0 || is_listed(records, last, x)
 }
 
 // Whether event e comes next in its task: its predecessor is the latest listed event there, or where none is,
@@ -113,17 +111,11 @@ fn follows(
     if !is_next(records, predecessors, last, e) {
         return false;
     }
-    let op = recording::opcode(records, at);
-    if op == 0 {
-        return writes[recording::object(records, at) as usize] == writers[at];
+    match recording::operation(records, at) {
+        Op::Read => writes[recording::object(records, at) as usize] == writers[at],
+        Op::Acquire => matches[at] == e || is_unlocked(records, matches, last, acquires, e),
+        _ => is_ready(records, last, writers[at]),
     }
-    if op != 2 {
-        return is_ready(records, last, writers[at]);
-    }
-    if matches[at] == e {
-        return true;
-    }
-    is_unlocked(records, matches, last, acquires, e)
 }
 
 // Notes that event e is listed: as the latest of its task, of its lock where it is an outer acquire, and of
@@ -148,17 +140,15 @@ fn note(
 {
     let at = e as usize;
     last[recording::task(records, at) as usize] = e;
-    let op = recording::opcode(records, at);
     let object = recording::object(records, at) as usize;
-    if op == 1 {
-        writes[object] = e;
-        return;
-    }
-    if op != 2 {
-        return;
-    }
-    if matches[at] != e {
-        acquires[object] = e;
+    match recording::operation(records, at) {
+        Op::Write => writes[object] = e,
+        Op::Acquire => {
+            if matches[at] != e {
+                acquires[object] = e;
+            }
+        }
+        _ => {}
     }
 }
 
@@ -181,8 +171,7 @@ fn keeps_order(
 {
     let mut acquires = [0u16; 64];
     let mut writes = [0u16; 1024];
-    let mut i = 0;
-    while i < schedule.len() / 2 {
+    for i in 0..schedule.len() / 2 {
         let e = recording::number(schedule, i);
         if !follows(
             records,
@@ -197,7 +186,6 @@ fn keeps_order(
             return false;
         }
         note(records, matches, last, &mut acquires, &mut writes, e);
-        i = i + 1;
     }
     true
 }
@@ -211,12 +199,10 @@ fn leaves_next(records: &[u8], predecessors: &[u16], pattern: &[u8], last: &[u16
     ensures { result ≡ all (is_next (decode_all records.now) last.now)
         (numbers pattern.now) }
 {
-    let mut i = 0;
-    while i < pattern.len() / 2 {
+    for i in 0..pattern.len() / 2 {
         if !is_next(records, predecessors, last, recording::number(pattern, i)) {
             return false;
         }
-        i = i + 1;
     }
     true
 }
@@ -247,7 +233,8 @@ pub fn witnessed(
     leaves_next(records, predecessors, pattern, &last)
 }
 
-// Decides the bytes of a pattern and a schedule: 0 where the first are no pattern, 1 for "no", 2 for "yes".
+// Decides the bytes of a pattern and a schedule: whether the second witnesses the first, or nothing where that
+// is no pattern.
 fn decide(
     records: &[u8],
     holding: &[u64],
@@ -256,7 +243,7 @@ fn decide(
     matches: &[u16],
     pattern: &[u8],
     schedule: &[u8],
-) -> u64
+) -> Option<bool>
     requires { (length records.now ≤ records_length) × ((check_events (decode_all records.now)).refusal ≡ 0)
         × Holding (decode_all records.now) holding.now
         × Needed (decode_all records.now) predecessors.now writers.now matches.now }
@@ -264,16 +251,13 @@ fn decide(
         schedule.now }
 {
     if !deadlock::lends_pattern(records, holding, pattern) {
-        return 0;
+        return None;
     }
-    if witnessed(records, predecessors, writers, matches, pattern, schedule) {
-        return 2;
-    }
-    1
+    Some(witnessed(records, predecessors, writers, matches, pattern, schedule))
 }
 
 // Decides them with tables of its own.
-fn judge(records: &[u8], pattern: &[u8], schedule: &[u8]) -> u64
+fn judge(records: &[u8], pattern: &[u8], schedule: &[u8]) -> Option<bool>
     requires { (length records.now ≤ records_length)
         × ((check_events (decode_all records.now)).refusal ≡ 0) }
     ensures { result ≡ answered (decode_all records.now) pattern.now
@@ -309,29 +293,10 @@ fn judge(records: &[u8], pattern: &[u8], schedule: &[u8]) -> u64
 
 // Checks a proposed schedule for a lent pattern: question 10, then whether the schedule is order-keeping and
 // leaves every event of the pattern next.
-pub fn check_schedule(recording: &[u8], pattern: &[u8], schedule: &[u8]) -> model::Checked
-    ensures { result ≡ check_schedule recording.now pattern.now
+pub fn check_schedule(recording: &[u8], pattern: &[u8], schedule: &[u8]) -> Result<bool, Refusal>
+    ensures { checked_of result ≡ check_schedule recording.now pattern.now
         schedule.now }
 {
-    let checked = recording::check(recording);
-    if checked.refusal != 0 {
-        return model::Checked {
-            refusal: checked.refusal,
-            event: checked.event,
-            valid: false,
-        };
-    }
-    let decided = judge(&recording[2..], pattern, schedule);
-    if decided == 0 {
-        return model::Checked {
-            refusal: 10,
-            event: 0,
-            valid: false,
-        };
-    }
-    model::Checked {
-        refusal: 0,
-        event: 0,
-        valid: decided == 2,
-    }
+    recording::check(recording)?;
+    judge(&recording[2..], pattern, schedule).ok_or(Question::Pattern.into())
 }

@@ -1,4 +1,5 @@
--- `deadlock::avoids` meets its contract: while no event before is in the set, the rest decides. Assumes nothing.
+-- `deadlock::avoids` meets its contract: while no event before is in the set, the rest decides. Assumes
+-- nothing.
 use Prim.Native.Nat.{ℕ}
 use mathlib.Core.Bool.{not}
 use mathlib.Core.List.{List}

@@ -3,7 +3,8 @@ use Rattle.model.specs.Recording.{decode_all}
 use Rattle.laws.proofs.WellFormed.{WellFormed}
 use Rattle.laws.proofs.Questions.{events_sound}
 use Rattle.deadlock.proofs.Chains.{acquires-not, acquires-task, acquires_own}
-use Rattle.frontier.proofs.Leaves.{code_other}
+use Rattle.recording.specs.declared.Op.TheVariants.{Acquire}
+use Rattle.frontier.proofs.Leaves.{code_apart}
 use mathlib.Core.Path.{refl}
 use borrow.Author.Tests.{le-ltb}
 use Rattle.deadlock.proofs.is_acquire.Goals as goal
@@ -28,4 +29,4 @@ returns-else-l-lt64 c =
 pub returns-in_default : goal.returns-in_default
 returns-in_default c =
     acquires-not (decode_all c.args.records.now) (sound (goal.at.returns-in_default c).Start) c.args.e
-    c.operation.ensures (code_other _ c.in_default.not-Acquire)
+    c.operation.ensures (code_apart _ Acquire c.in_default.not-Acquire)

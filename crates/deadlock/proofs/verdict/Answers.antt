@@ -25,8 +25,7 @@ slice_bounds-judge-count c =
 
 pub slice_bounds-judge-start : goal.slice_bounds-judge-start
 slice_bounds-judge-start c =
-    let h = (check_bytes c.args.recording.now (accepted (goal.at.slice_bounds-judge-start c).In_ok-check)).0 in
-    search rules
+    let h = (check_bytes _ (accepted (goal.at.slice_bounds-judge-start c).In_ok-check)).0 in search rules
 
 pub judge-requires : goal.judge-requires
 judge-requires c =

@@ -9,7 +9,8 @@ use Rattle.laws.proofs.Trace.{record-event}
 use Rattle.laws.proofs.Marks.{WithMark, marked_outer}
 use Rattle.laws.proofs.WellFormed.{acquire_lt}
 use Rattle.laws.proofs.Questions.{events_sound}
-use Rattle.frontier.proofs.Leaves.{code_other, other_visited, uncounted_visited, acquire_visited, awaited_in}
+use Rattle.recording.specs.declared.Op.TheVariants.{Acquire}
+use Rattle.frontier.proofs.Leaves.{code_apart, other_visited, uncounted_visited, acquire_visited, awaited_in}
 use Rattle.frontier.proofs.visit.Goals as goal
 use Rattle.frontier.proofs.visit.Goals.{Start}
 
@@ -59,6 +60,6 @@ pub returns-in_default : goal.returns-in_default
 returns-in_default c =
     let (h, k) = record-event c.args.records.now c.args.f (c.requires.0, c.requires.1) in
     let visited = other_visited (unpacked (goal.at.returns-in_default c).Start _ c.operation.ensures) _
-    c.args.latest.now (code_other _ c.in_default.not-Acquire) (c.requires.6.writer_at c.args.f h k)
+    c.args.latest.now (code_apart _ Acquire c.in_default.not-Acquire) (c.requires.6.writer_at c.args.f h k)
     c.want_event.ensures in
     record { wanted = visited.0; latest = visited.1 }

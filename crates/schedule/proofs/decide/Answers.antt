@@ -1,6 +1,6 @@
 -- `schedule::decide` meets its contract: question 10, and then the schedule. Assumes nothing.
 use mathlib.Core.Path.{◌≡◌, sym, ◌∙◌}
-use mathlib.Core.Bool.{true, false, ◌&&◌}
+use mathlib.Core.Bool.{true, ◌&&◌}
 use Rattle.model.specs.Bytes.{numbers, is_whole}
 use Rattle.model.specs.Recording.{decode_all}
 use Rattle.model.specs.Pattern.{is_pattern}
@@ -18,8 +18,9 @@ pattern-lent : (c : goal.Else-not-lends_pattern)
 pattern-lent c = sym c.lends_pattern.ensures ∙ c.if-not-lends_pattern.false
 
 pub returns-then-not-lends_pattern : goal.returns-then-not-lends_pattern
-returns-then-not-lends_pattern c = answered-none (decode_all c.args.records.now) c.args.pattern.now
-    c.args.schedule.now (sym c.lends_pattern.ensures ∙ c.if-not-lends_pattern.true)
+returns-then-not-lends_pattern c =
+    sym (answered-none (decode_all c.args.records.now) c.args.pattern.now c.args.schedule.now
+    (sym c.lends_pattern.ensures ∙ c.if-not-lends_pattern.true))
 
 pub witnessed-requires : goal.witnessed-requires
 witnessed-requires c = (
@@ -30,12 +31,8 @@ witnessed-requires c = (
       (pattern-lent (goal.at.witnessed-requires c).Else-not-lends_pattern),
 )
 
-pub returns-then-witnessed : goal.returns-then-witnessed
-returns-then-witnessed c = answered_some (decode_all c.args.records.now) c.args.pattern.now
-    c.args.schedule.now (pattern-lent (goal.at.returns-then-witnessed c).Else-not-lends_pattern) true
-    (sym (sym c.witnessed.ensures ∙ c.if-witnessed.true))
-
 pub returns : goal.returns
-returns c = answered_some (decode_all c.args.records.now) c.args.pattern.now
-    c.args.schedule.now (pattern-lent (goal.at.returns c).Else-not-lends_pattern) false
-    (sym (sym c.witnessed.ensures ∙ c.if-witnessed.false))
+returns c =
+    rw c.witnessed.ensures
+    (sym (answered_some (decode_all c.args.records.now) c.args.pattern.now c.args.schedule.now
+    (pattern-lent (goal.at.returns c).Else-not-lends_pattern)))

@@ -1,7 +1,6 @@
 -- `schedule::keeps_order` meets its contract: before each number the tables hold what is listed, and the rest
 -- of the schedule decides. Assumes nothing.
 use native.Mathlib.Omega.{arith}
-use borrow.Author.Rules.{rules}
 use Rattle.model.specs.Recording.{decode_all}
 use Rattle.laws.proofs.Trace.{record-event}
 use Rattle.schedule.proofs.Walk.{Turn, listed_ready, follows_in, walking_start}
@@ -16,7 +15,7 @@ asked : (c : goal.After-follows)
     Turn (decode_all a.records.now) a.schedule.now l.i l.last l.acquires l.writes
     c.number-e.result c.follows.result
 asked c = record {
-  walking = c.loop-i.invariant.1;
+  walking = c.loop-i.invariant;
   here = c.loop-i-test.true;
   number = c.number-e.ensures;
   answers = c.follows.ensures;
@@ -24,7 +23,7 @@ asked c = record {
 
 pub loop-i-init : goal.loop-i-init
 loop-i-init c =
-    (omega arith, walking_start _ _ _ c.requires.3)
+    walking_start _ _ _ c.requires.3
 
 pub returns-then-not-follows : goal.returns-then-not-follows
 returns-then-not-follows c =
@@ -44,13 +43,11 @@ note-requires c =
     )
 
 pub loop-i-preserved : goal.loop-i-preserved
-loop-i-preserved c = (
-  search rules,
-  walking-next (asked (goal.at.loop-i-preserved c).After-follows) (c.if-not-follows.false) _ _ _
-      c.note.ensures,
-)
+loop-i-preserved c =
+    walking-next (asked (goal.at.loop-i-preserved c).After-follows) c.if-not-follows.false _ _ _
+    c.note.ensures
 
 pub returns : goal.returns
 returns c =
     let l = c.loop-i in
-    walking_end _ c.args.schedule.now l.i _ _ _ l.invariant.1 c.loop-i-test.false
+    walking_end _ c.args.schedule.now l.i _ _ _ l.invariant c.loop-i-test.false

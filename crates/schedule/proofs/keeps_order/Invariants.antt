@@ -1,17 +1,9 @@
 -- `schedule::keeps_order` meets its contract: before each number the tables hold what is listed, and the rest
 -- of the schedule decides. Assumes nothing.
-use Prim.Native.Nat.{◌-◌, ◌/◌, ◌≤◌}
-use lib.ListN.{length}
 use Rattle.model.specs.Recording.{decode_all}
 use Rattle.model.specs.Bytes.{numbers}
 use Rattle.schedule.proofs.Walk.{Walking}
 use Rattle.schedule.proofs.keeps_order.Given as goal
 
 abbrev pub invariant-loop-i : goal.invariant-loop-i
-invariant-loop-i l =
-    (l.i ≤ length l.schedule / 2) × Walking (decode_all l.records) (numbers l.schedule) l.i l.last
-    l.acquires l.writes
-
-abbrev pub decreases-loop-i : goal.decreases-loop-i
-decreases-loop-i l =
-    length l.schedule / 2 - l.i
+invariant-loop-i l = Walking (decode_all l.records) (numbers l.schedule) l.i l.last l.acquires l.writes

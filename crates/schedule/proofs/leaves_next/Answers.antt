@@ -16,7 +16,7 @@ is_next-requires c =
 pub returns-then-not-is_next : goal.returns-then-not-is_next
 returns-then-not-is_next c =
     let k = c.loop-i in
-    passing_stop _ (numbers c.args.pattern.now) k.i k.invariant.1
+    passing_stop _ (numbers c.args.pattern.now) k.i k.invariant
     (numbers_inside c.args.pattern.now c.loop-i-test.true)
     c.number.ensures c.is_next.ensures
     (c.if-not-is_next.true)
@@ -25,4 +25,4 @@ pub returns : goal.returns
 returns c =
     let k = c.loop-i in
     let count = numbers-length c.args.pattern.now in
-    passing_end _ (numbers c.args.pattern.now) k.i k.invariant.1 (omega (arith, c.loop-i-test.false))
+    passing_end _ (numbers c.args.pattern.now) k.i k.invariant (omega (arith, c.loop-i-test.false))

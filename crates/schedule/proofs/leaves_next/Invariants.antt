@@ -1,7 +1,5 @@
 -- `schedule::leaves_next` meets its contract: the events before number i of the pattern are next, so the rest
 -- decides. Assumes nothing.
-use Prim.Native.Nat.{◌-◌, ◌/◌, ◌≤◌}
-use lib.ListN.{length}
 use Rattle.model.specs.Recording.{decode_all}
 use Rattle.model.specs.Bytes.{numbers}
 use Rattle.laws.proofs.Passing.{Passing}
@@ -9,8 +7,4 @@ use Rattle.schedule.specs.Next.{is_next}
 use Rattle.schedule.proofs.leaves_next.Given as goal
 
 abbrev pub invariant-loop-i : goal.invariant-loop-i
-invariant-loop-i l =
-    (l.i ≤ length l.pattern / 2) × Passing (is_next (decode_all l.records) l.last) (numbers l.pattern) l.i
-
-abbrev pub decreases-loop-i : goal.decreases-loop-i
-decreases-loop-i l = length l.pattern / 2 - l.i
+invariant-loop-i l = Passing (is_next (decode_all l.records) l.last) (numbers l.pattern) l.i
