@@ -5,10 +5,12 @@ use mathlib.Core.Logic.{◌⊎◌, inl, inr, ⊎_elim, ◌≢◌}
 use mathlib.Core.Bool.{true, false, cond}
 use mathlib.Core.List.{List}
 use native.Mathlib.Omega.{arith}
-use lib.Dec.{T}
+use Rattle.std.specs.Prelude.{Result, Ok, Err, IfOk}
 use lib.ListN.{length, take, drop}
 use lib.Seq.{sets, take-append_seam}
 use borrow.Author.Tests.{eq-eqb, ne_eqb, le-leb, lt-leb}
+use Rattle.model.specs.declared.Question.{Question}
+use Rattle.model.specs.declared.Question.TheVariants.{LargestSize}
 use Rattle.model.specs.Recording.{trace}
 use Rattle.model.specs.Listing.{deadlocks}
 use Rattle.model.specs.Calls.Questions.{outcome, is_accepted, permits_size, fits_output}
@@ -18,29 +20,31 @@ use Rattle.laws.specs.Answered.{refused_listing}
 use Rattle.laws.proofs.Tests.{equal?, at-most?}
 use Rattle.laws.proofs.Parts.{sets-written}
 use Rattle.entries.specs.declared.Found.{Found}
-use Rattle.entries.specs.Taken.{Taken}
+use Rattle.entries.specs.declared.Full.{Full}
+use Rattle.entries.specs.Taken.{Taken, Roomy}
 use Rattle.listing.specs.Delivered.{Delivered}
+use Rattle.listing.specs.Size.{asked_size}
 
 -- ---- the size
 
 -- 0 stands for 16.
-pub size_default : (k : ℕ) → k ≡ 0 → 16 ≡ cond (is_accepted (permits_size k)) (largest_size k) 0
+pub size_default : (k : ℕ) → k ≡ 0 → Ok 16 ≡ asked_size k
 unfolding permits_size largest_size
 size_default k q = rw q refl
 
 module _ (k : ℕ) (d : k ≢ 0) where
   -- 1 is refused,
-  pub size_low : k < 2 → 0 ≡ cond (is_accepted (permits_size k)) (largest_size k) 0
+  pub size_low : k < 2 → Err LargestSize ≡ asked_size k
   unfolding permits_size
   size_low h = rw (ne_eqb k 0 d, lt-leb 2 k h)
 
   -- more than 16 too,
-  pub size_high : 16 < k → 0 ≡ cond (is_accepted (permits_size k)) (largest_size k) 0
+  pub size_high : 16 < k → Err LargestSize ≡ asked_size k
   unfolding permits_size
   size_high h = rw (ne_eqb k 0 d, le-leb 2 k (omega arith), lt-leb k 16 h)
 
   -- and the others stand for themselves.
-  pub size_itself : 2 ≤ k → k ≤ 16 → k ≡ cond (is_accepted (permits_size k)) (largest_size k) 0
+  pub size_itself : 2 ≤ k → k ≤ 16 → Ok k ≡ asked_size k
   unfolding permits_size largest_size
   size_itself h l = rw (ne_eqb k 0 d, le-leb 2 k h, le-leb k 16 l)
 
@@ -59,48 +63,66 @@ size_question k =
     (at-most? 2 k))
     (equal? k 0)
 
+-- A size that is refused is so by question 8,
+pub size_refused : (k : ℕ) {q : Question} → Err q ≡ asked_size k
+    → (q ≡ LargestSize) × (permits_size k ≡ outcome 8 0)
+size_refused k {q} e =
+    ⊎_elim
+    (λ (p : permits_size k ≡ outcome 8 0). let same = rw p at e in (cc, p))
+    (λ (p : (permits_size k ≡ outcome 0 0) × (2 ≤ largest_size k) × (largest_size k ≤ 16)).
+    let other : Err q ≡ Ok (largest_size k) = rw p.0 at e in cc)
+    (size_question k)
+
+-- and one that is permitted is 2 to 16.
+pub size_permitted : (k : ℕ) {m : ℕ} → Ok m ≡ asked_size k
+    → (m ≡ largest_size k) × (permits_size k ≡ outcome 0 0) × (2 ≤ m) × (m ≤ 16)
+size_permitted k {m} e =
+    ⊎_elim
+    (λ (p : permits_size k ≡ outcome 8 0). let other : Ok m ≡ Err LargestSize = rw p at e in cc)
+    (λ (p : (permits_size k ≡ outcome 0 0) × (2 ≤ largest_size k) × (largest_size k ≤ 16)).
+    let same : Ok m ≡ Ok (largest_size k) = rw p.0 at e in
+    let is : m ≡ largest_size k = cc in
+    (is, p.0, omega (arith, p.1), omega (arith, p.2)))
+    (size_question k)
+
 -- ---- what is delivered
 
-module _ (ps : List (List ℕ)) (out buffer₀ buffer : List ℕ) (f : Found)
-    (z : Taken (length out) ps buffer₀ buffer f) where
+module _ (ps : List (List ℕ)) (out buffer₀ buffer : List ℕ) where
   -- Entries that exceed the room are not written.
-  pub delivered-none : f.full ≡ true → Delivered ps out out f
-  delivered-none y = record {
-    refused = λ q. (z.over y, refl);
-    counted = λ n. absurd (subst T (sym y ∙ n) tt);
-    written = λ n. absurd (subst T (sym y ∙ n) tt);
-  }
+  pub delivered-none : (x : Full) → Taken (length out) ps buffer₀ buffer (Err x) → Delivered ps out out (Err x)
+  delivered-none x z = record { refused = (z.over, refl); counted = tt; written = tt }
 
-  module _ (n : f.full ≡ false) (fits : f.bytes ≤ length out) where
+  module _ (f : Found) (z : Taken (length out) ps buffer₀ buffer (Ok f)) (fits : f.bytes ≤ length out) where
     size : f.bytes ≡ length (entries ps)
-    size = (z.counted n).1
+    size = z.counted.1
 
     -- Entries that fit the buffer are copied.
     pub delivered_copied : f.bytes ≤ length buffer₀ → (out' : List ℕ)
-        → out' ≡ sets out 0 (take f.bytes buffer) → Delivered ps out out' f
+        → out' ≡ sets out 0 (take f.bytes buffer) → Delivered ps out out' (Ok f)
     delivered_copied h out' q = record {
-      refused = λ y. absurd (subst T (sym y ∙ n) tt);
-      counted = λ m. z.counted n;
-      written = λ m. (omega (arith, size, fits), q ∙ ap (sets out 0) bytes);
+      refused = tt;
+      counted = z.counted;
+      written = (omega (arith, size, fits), q ∙ ap (sets out 0) bytes);
     }
       where
         bytes : take f.bytes buffer ≡ entries ps
         bytes =
             rw (
-              z.written n (omega (arith, z.long)),
+              z.written (omega (arith, z.long)),
               size,
               sets-written (entries ps) buffer₀ (omega (arith, size)),
             )
             (take-append_seam (entries ps) (drop (length (entries ps)) buffer₀))
 
     -- Entries that do not fit it are found again, and written.
-    pub delivered-again : (out' : List ℕ) (g : Found) → Taken (length out) ps out out' g
-        → g.bytes ≤ length out → Delivered ps out out' g
-    delivered-again out' g w r = record {
-      refused = λ y. absurd (omega (arith, w.over y, size, fits));
+    pub delivered-again : (out' : List ℕ) (r : Result Found Full) → Taken (length out) ps out out' r
+        → IfOk r (Roomy (length out)) → Delivered ps out out' r
+    delivered-again out' (Ok g) w b = record {
+      refused = tt;
       counted = w.counted;
-      written = λ m. (omega (arith, size, fits), w.written m (omega (arith, w.long)));
+      written = (omega (arith, size, fits), w.written (omega (arith, w.long, b.bytes_le)));
     }
+    delivered-again out' (Err x) w b = absurd (omega (arith, w.over, size, fits))
 
 -- ---- the call
 
@@ -113,56 +135,30 @@ module _ (b : List ℕ) (k : ℕ) (out : List ℕ) where
 
   module _ (c : (check b).refusal ≡ 0) where
     -- 8: a size that is not permitted.
-    pub list_size : (m : ℕ) → m ≡ cond (is_accepted (permits_size k)) (largest_size k) 0 → m ≡ 0
+    pub list_size : permits_size k ≡ outcome 8 0
         → (list b k (length out) ≡ refused_listing 8 0) × (list_out b k out ≡ out)
     unfolding list list_out list_refusal
-    list_size m q e =
-        let y = eq-eqb (check b).refusal 0 c in
-        ⊎_elim
-        (λ (p : permits_size k ≡ outcome 8 0). (rw (y, p), rw (y, p)))
-        (λ (p : (permits_size k ≡ outcome 0 0) × (2 ≤ largest_size k) × (largest_size k ≤ 16)).
-        let m-is : m ≡ largest_size k = rw p.0 at q in absurd (omega (arith, p.1)))
-        (size_question k)
+    list_size p = let y = eq-eqb (check b).refusal 0 c in (rw (y, p), rw (y, p))
 
-    -- A size that is permitted is 2 to 16.
-    pub list_permitted : (m : ℕ) → m ≡ cond (is_accepted (permits_size k)) (largest_size k) 0 → m ≢ 0
-        → (2 ≤ m) × (m ≤ 16) × (permits_size k ≡ outcome 0 0) × (m ≡ largest_size k)
-    list_permitted m q d =
-        ⊎_elim
-        (λ (p : permits_size k ≡ outcome 8 0). absurd (d (rw p at q)))
-        (λ (p : (permits_size k ≡ outcome 0 0) × (2 ≤ largest_size k) × (largest_size k ≤ 16)).
-        let m-is : m ≡ largest_size k = rw p.0 at q in (
-          omega (arith, p.1),
-          omega (arith, p.2),
-          p.0,
-          m-is,
-        ))
-        (size_question k)
-
-    module _ (m : ℕ) (p : permits_size k ≡ outcome 0 0) (q : m ≡ largest_size k) (out' : List ℕ) (f : Found)
-        (z : Delivered (deadlocks (trace b) m) out out' f) where
-      same : deadlocks (trace b) m ≡ listing b k
-      unfolding listing
-      same = ap (deadlocks (trace b)) q
-
+    module _ (p : permits_size k ≡ outcome 0 0) (out' : List ℕ) where
       -- 13: the entries do not fit.
-      pub list_short : f.full ≡ true
+      pub list_short : {x : Full} → Delivered (deadlocks (trace b) (largest_size k)) out out' (Err x)
           → (list b k (length out) ≡ refused_listing 13 0) × (out' ≡ list_out b k out)
-      unfolding list list_out list_refusal fits_output
-      list_short y =
-          let s = rw same at (z.refused y) in
+      unfolding list list_out list_refusal fits_output listing
+      list_short z =
+          let s = z.refused in
           let n = lt-leb (length (entries (listing b k))) (length out) s.0 in
           (rw (eq-eqb (check b).refusal 0 c, p, n), rw (eq-eqb (check b).refusal 0 c, p, n) s.1)
 
       -- The entries are counted and written.
-      pub list_written : f.full ≡ false
+      pub list_written : {f : Found} → Delivered (deadlocks (trace b) (largest_size k)) out out' (Ok f)
           → (record { refusal = 0; event = 0; patterns = f.patterns; bytes = f.bytes } ≡ list b k (length
           out))
           × (out' ≡ list_out b k out)
-      unfolding list list_out list_refusal fits_output
-      list_written n =
-          let s = rw same at (z.written n) in
-          let t = rw same at (z.counted n) in
+      unfolding list list_out list_refusal fits_output listing
+      list_written z =
+          let s = z.written in
+          let t = z.counted in
           let l = le-leb (length (entries (listing b k))) (length out) s.0 in (
             rw (eq-eqb (check b).refusal 0 c, p, l, t.0, t.1) refl,
             rw (eq-eqb (check b).refusal 0 c, p, l) (s.1 ∙ sets-written (entries (listing b k)) out s.0),

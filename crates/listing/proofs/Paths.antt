@@ -7,6 +7,7 @@ use mathlib.Core.Bool.{true, false}
 use mathlib.Core.List.{List, [], ◌∷◌, ◌++◌}
 use native.Mathlib.Omega.{arith}
 use lib.Dec.{T}
+use Rattle.std.specs.Prelude.{Ok}
 use lib.Bits.{bit_or}
 use lib.ListN.{length, get_or, take, set, length-set}
 use lib.Seq.{get_or-take, get_or-set_same, get_or-set_other, take-set-le, take-suc-set, take-take}
@@ -20,6 +21,8 @@ use Rattle.laws.proofs.Tests.{and_iff}
 use Rattle.laws.proofs.Extensions.{extensions-zero, branch_closes, branch_longer}
 use Rattle.laws.proofs.Returning.{add_rooted}
 use Rattle.chain.proofs.Laws.{path_more}
+use Rattle.chain.specs.declared.Trial.{Trial}
+use Rattle.chain.specs.declared.Trial.TheVariants.{Success}
 use Rattle.entries.specs.declared.Found.{Found}
 use Rattle.entries.specs.Taken.{Adds}
 use Rattle.entries.proofs.Laws.{adds_none}
@@ -84,7 +87,7 @@ returning_fewer l z = record {
 
 -- ---- what comes of an event after a chain
 
-module _ {σ : Trace} {path : List ℕ} {len k tasks guards e met : ℕ} {front latest : List ℕ}
+module _ {σ : Trace} {path : List ℕ} {len k tasks guards e : ℕ} {met : Trial} {front latest : List ℕ}
     (z : Descending σ path len k tasks guards e met front latest) where
   -- An event that fits is an acquire.
   pub follows_acquire : T (is_acquire σ e)
@@ -93,11 +96,11 @@ module _ {σ : Trace} {path : List ℕ} {len k tasks guards e met : ℕ} {front 
       let s = simp and_iff at t in s.0.0.0
 
   -- Where it was dropped, nothing.
-  pub descend_dropped : met ≢ 0 → (room : ℕ) (out : List ℕ) (f : Found)
-      → Adds room (branch σ k (chain_at path len tasks guards) e) out out f f
+  pub descend_dropped : met ≢ Success → (room : ℕ) (out : List ℕ) (f : Found)
+      → Adds room (branch σ k (chain_at path len tasks guards) e) out out f (Ok f)
   descend_dropped d room out f = rw (z.dropped d) (adds_none room out f)
 
-  module _ (taken : met ≡ 0) {back : List ℕ} (b : Returning σ (get_or path 0 0) (suc k) back) where
+  module _ (taken : met ≡ Success) {back : List ℕ} (b : Returning σ (get_or path 0 0) (suc k) back) where
     -- Where it completes the chain, the pattern.
     pub descend-completes : has_bit (get_or back 0 0) (object σ e) ≡ true
         → branch σ k (chain_at path len tasks guards) e ≡ take (len + 1) (set path len e) ∷ []

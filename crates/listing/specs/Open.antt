@@ -13,6 +13,8 @@ use Rattle.laws.specs.Walk.{branch}
 use Rattle.laws.specs.Returning.{Rooted}
 use Rattle.frontier.specs.Visit.{Needed}
 use Rattle.deadlock.specs.Judged.{Holding}
+use Rattle.chain.specs.declared.Trial.{Trial}
+use Rattle.chain.specs.declared.Trial.TheVariants.{Success}
 use Rattle.pruning.specs.Linked.{Linked, Marked}
 
 -- Records of accepted events, and the tables of them.
@@ -44,10 +46,10 @@ pub record Open (σ : Trace) (path : List ℕ) (len left tasks guards : ℕ) (fr
   pub rooted : Rooted σ (chain_at path len tasks guards)
   pub before : Before σ (take len path) front latest
 
--- Event e after an open chain, attempted with at most k more: where `met` is 0 it fits, the events are a
--- deadlock so far, and the frontier is that of all their predecessors; otherwise it adds nothing.
-pub record Descending (σ : Trace) (path : List ℕ) (len k tasks guards e met : ℕ) (front latest : List ℕ)
-    : Type 0 where
+-- Event e, which fits an open chain, attempted with at most k more: with success the events are a deadlock so
+-- far, and the frontier is that of all their predecessors; otherwise it adds nothing.
+pub record Descending (σ : Trace) (path : List ℕ) (len k tasks guards e : ℕ) (met : Trial)
+    (front latest : List ℕ) : Type 0 where
   pub long : length path ≡ largest_pattern
   pub some : 1 ≤ len
   pub sized : len + k < largest_pattern
@@ -55,6 +57,6 @@ pub record Descending (σ : Trace) (path : List ℕ) (len k tasks guards e met :
   pub rooted : Rooted σ (chain_at path len tasks guards)
   pub event : (1 ≤ e) × (e ≤ length σ)
   pub follows : fits (signature σ) (chain_at path len tasks guards) e ≡ true
-  pub deadlock : met ≡ 0 → is_deadlock σ (take len path ++ e ∷ []) ≡ true
-  pub before : met ≡ 0 → Before σ (take len path ++ e ∷ []) front latest
-  pub dropped : met ≢ 0 → branch σ k (chain_at path len tasks guards) e ≡ []
+  pub deadlock : met ≡ Success → is_deadlock σ (take len path ++ e ∷ []) ≡ true
+  pub before : met ≡ Success → Before σ (take len path ++ e ∷ []) front latest
+  pub dropped : met ≢ Success → branch σ k (chain_at path len tasks guards) e ≡ []

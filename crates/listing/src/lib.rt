@@ -3,20 +3,21 @@
 
 mod search;
 
-ghost use Rattle.std.specs.Prelude.{◌+◌, ◌<◌, ◌≤◌, ◌≡◌, cond, length, take};
+ghost use Rattle.std.specs.Prelude.{◌+◌, ◌<◌, ◌≤◌, ◌≡◌, length, take};
 ghost use Rattle.std.proofs.lemmas.List.Edits.{sets};
+ghost use Rattle.model.specs.Answers.{listed_of};
 ghost use Rattle.model.specs.Recording.{decode_all};
 ghost use Rattle.model.specs.Pattern.{largest_pattern};
 ghost use Rattle.model.specs.Listing.{deadlocks};
-ghost use Rattle.model.specs.Calls.Questions.{is_accepted, permits_size};
 ghost use Rattle.model.specs.Calls.Check.{check_events};
-ghost use Rattle.model.specs.Calls.List.{largest_size, list, list_out};
+ghost use Rattle.model.specs.Calls.List.{list, list_out};
 ghost use Rattle.laws.specs.Sizes.{records_length};
-ghost use Rattle.laws.specs.Answered.{refused_listing};
 ghost use Rattle.listing.specs.Open.{Ready};
 ghost use Rattle.listing.specs.Delivered.{Delivered};
+ghost use Rattle.listing.specs.Size.{asked_size};
 
-use entries::Found;
+use entries::{Found, Full};
+use model::{Entries, Question, Refusal};
 
 // Lists the deadlocks of at most `largest` events into the output, where all their entries fit it; else it
 // writes nothing. Only a listing of more than 65,536 bytes is searched for twice.
@@ -30,7 +31,7 @@ fn deliver(
     blocks: &[u64],
     largest: usize,
     out: &mut [u8],
-) -> Found
+) -> Result<Found, Full>
     requires { Ready records.now holding.now predecessors.now writers.now matches.now
         next.now blocks.now
         × (2 ≤ largest) × (largest ≤ largest_pattern) }
@@ -49,31 +50,28 @@ fn deliver(
         largest,
         &mut buffer,
         out.len(),
-    );
-    if found.full {
-        return found;
-    }
+    )?;
     let bytes = found.bytes;
-    if bytes <= 65536 {
-        out[..bytes].copy_from_slice(&buffer[..bytes]);
-        return found;
+    if 65536 < bytes {
+        return search::search_all(
+            records,
+            holding,
+            predecessors,
+            writers,
+            matches,
+            next,
+            blocks,
+            largest,
+            out,
+            out.len(),
+        );
     }
-    search::search_all(
-        records,
-        holding,
-        predecessors,
-        writers,
-        matches,
-        next,
-        blocks,
-        largest,
-        out,
-        out.len(),
-    )
+    out[..bytes].copy_from_slice(&buffer[..bytes]);
+    Ok(found)
 }
 
 // Lists into the output with tables of its own.
-fn list_records(records: &[u8], largest: usize, out: &mut [u8]) -> Found
+fn list_records(records: &[u8], largest: usize, out: &mut [u8]) -> Result<Found, Full>
     requires { (length records.now ≤ records_length) × ((check_events (decode_all records.now)).refusal ≡ 0)
         × (2 ≤ largest) × (largest ≤ largest_pattern) }
     ensures { Delivered (deadlocks (decode_all records.now) largest) out.old
@@ -113,55 +111,29 @@ fn list_records(records: &[u8], largest: usize, out: &mut [u8]) -> Found
     )
 }
 
-// The largest size that the argument asks for, or 0 where it is not permitted.
-fn size_of(largest: u64) -> usize
-    ensures { result ≡ cond (is_accepted (permits_size largest)) (largest_size largest) 0 }
+// The largest size that the argument asks for, 16 where it is 0: question 8.
+fn size_of(largest: u64) -> Result<usize, Question>
+    ensures { result ≡ asked_size largest }
 {
-    if largest == 0 {
-        return 16;
-    }
-    if largest < 2 {
-        return 0;
-    }
-    if 16 < largest {
-        return 0;
-    }
-    largest as usize
-}
-
-// A listing call that writes nothing.
-fn unlisted(refusal: u64, event: u64) -> model::Listed
-    ensures { result ≡ refused_listing refusal event }
-{
-    model::Listed {
-        refusal,
-        event,
-        patterns: 0,
-        bytes: 0,
+    match largest {
+        0 => Ok(16),
+        2..=16 => Ok(largest as usize),
+        _ => Err(Question::LargestSize),
     }
 }
 
 // The listing of a recording's deadlocks of at most `largest` events, 0 for 16: question 8, then 13.
-pub fn list(recording: &[u8], largest: u64, out: &mut [u8]) -> model::Listed
-    ensures answer { result ≡ list recording.now largest (length out.old) }
+pub fn list(recording: &[u8], largest: u64, out: &mut [u8]) -> Result<Entries, Refusal>
+    ensures answer { listed_of result ≡ list recording.now largest (length out.old) }
     ensures output { out.new ≡ list_out recording.now largest out.old }
 {
-    let checked = recording::check(recording);
-    if checked.refusal != 0 {
-        return unlisted(checked.refusal, checked.event);
-    }
-    let size = size_of(largest);
-    if size == 0 {
-        return unlisted(8, 0);
-    }
-    let found = list_records(&recording[2..], size, out);
-    if found.full {
-        return unlisted(13, 0);
-    }
-    model::Listed {
-        refusal: 0,
-        event: 0,
-        patterns: found.patterns as u64,
-        bytes: found.bytes as u64,
+    recording::check(recording)?;
+    let size = size_of(largest)?;
+    match list_records(&recording[2..], size, out) {
+        Ok(found) => Ok(Entries {
+            patterns: found.patterns as u64,
+            bytes: found.bytes as u64,
+        }),
+        Err(Full) => Err(Question::OutputLength.into()),
     }
 }

@@ -1,6 +1,6 @@
 // The search for deadlocks: depth first over acquires that hold locks, in the listing's order. What it finds
 // is taken as entries.
-ghost use Rattle.std.specs.Prelude.{suc, ◌+◌, ◌*◌, ◌-◌, ◌≤◌, ◌≡◌, false, T, length, get_or, take};
+ghost use Rattle.std.specs.Prelude.{suc, ◌+◌, ◌*◌, ◌-◌, ◌≤◌, ◌≡◌, T, length, get_or, take, IfOk};
 ghost use Rattle.model.specs.Trace.{tasks, is_acquire};
 ghost use Rattle.model.specs.Recording.{decode_all};
 ghost use Rattle.model.specs.Pattern.{largest_pattern};
@@ -11,10 +11,11 @@ ghost use Rattle.laws.specs.Returning.{Leading, Returning};
 ghost use Rattle.entries.specs.Taken.{Taken, Adds, Roomy};
 ghost use Rattle.listing.specs.Open.{Ready, chain_at, Open, Descending};
 
-use entries::Found;
+use chain::Trial;
+use entries::{Found, Full};
 
-// Goes on with event e after the first `len` events of the path, where it was attempted with success (`met`
-// is 0): takes a pattern where it completes one, and otherwise extends the chain by at most k more events.
+// Goes on with event e after the first `len` events of the path, where it was attempted with success: takes a
+// pattern where it completes one, and otherwise extends the chain by at most k more events.
 #[cycle(descend_extend)]
 fn descend(
     records: &[u8],
@@ -36,26 +37,28 @@ fn descend(
     room: usize,
     found: Found,
     e: usize,
-    met: u64,
-) -> Found
+    met: Trial,
+) -> Result<Found, Full>
     requires { Ready records.now holding.now predecessors.now writers.now matches.now
         next.now blocks.now
         × Descending (decode_all records.now) path.old len k tasks guards e met front.now latest.now
         × Returning (decode_all records.now) (get_or path.old 0 0) (suc k) back.now
-        × Roomy room found × (found.full ≡ false) }
-    ensures { Roomy room result × (take len path.new ≡ take len path.old)
-        × Adds room (branch (decode_all records.now) k
+        × Roomy room found }
+    ensures roomy { IfOk result (Roomy room) }
+    ensures kept { take len path.new ≡ take len path.old }
+    ensures adds { Adds room (branch (decode_all records.now) k
         (chain_at path.old len tasks guards) e) out.old out.new found result }
 {
-    if met != 0 {
-        return found;
+    match met {
+        Trial::Success => {}
+        _ => return Ok(found),
     }
     path[len] = e as u16;
     if chain::completes(records, back, e) {
         return entries::take_pattern(out, path, len + 1, room, found);
     }
     if k == 0 {
-        return found;
+        return Ok(found);
     }
     extend(
         records,
@@ -101,23 +104,25 @@ fn extend(
     out: &mut [u8],
     room: usize,
     found: Found,
-) -> Found
+) -> Result<Found, Full>
     requires { Ready records.now holding.now predecessors.now writers.now matches.now
         next.now blocks.now
         × Open (decode_all records.now) path.old len left tasks guards front.now latest.now
         × (1 ≤ left) × Returning (decode_all records.now) (get_or path.old 0 0) left back.now
-        × Roomy room found × (found.full ≡ false) }
-    ensures { Roomy room result × (take len path.new ≡ take len path.old)
-        × Adds room (extensions (decode_all records.now) left
+        × Roomy room found }
+    ensures roomy { IfOk result (Roomy room) }
+    ensures kept { take len path.new ≡ take len path.old }
+    ensures adds { Adds room (extensions (decode_all records.now) left
         (chain_at path.old len tasks guards)) out.old out.new found result }
 {
     let last = path[len - 1] as usize;
     let mut grown = [0u16; 16];
     let mut newest = [0u16; 64];
-    let mut of = 16;
+    let mut of = None;
     let mut excluded = tasks;
     let mut taken = found;
-    let mut e = pruning::following(
+    let mut at = path[0] as usize;
+    while let Some(e) = pruning::following(
         records,
         holding,
         next,
@@ -125,9 +130,8 @@ fn extend(
         last,
         excluded,
         guards,
-        path[0] as usize,
-    );
-    while e != 0 {
+        at,
+    ) {
         let met = chain::attempt(
             records,
             predecessors,
@@ -167,14 +171,10 @@ fn extend(
             taken,
             e,
             met,
-        );
-        let full = taken.full;
-        if full {
-            return taken;
-        }
-        e = pruning::following(records, holding, next, blocks, last, excluded, guards, e);
+        )?;
+        at = e;
     }
-    taken
+    Ok(taken)
 }
 
 // Extends the chain of the acquire a by at most largest - 1 later events.
@@ -193,15 +193,15 @@ fn begin(
     out: &mut [u8],
     room: usize,
     found: Found,
-) -> Found
+) -> Result<Found, Full>
     requires { Ready records.now holding.now predecessors.now writers.now matches.now
         next.now blocks.now
         × (1 ≤ a) × (2 * a ≤ length records.now) × T (is_acquire (decode_all records.now) a)
         × (2 ≤ largest) × (largest ≤ largest_pattern) × (length path.old ≡ largest_pattern)
         × Returning (decode_all records.now) a largest back.now
-        × Roomy room found × (found.full ≡ false) }
-    ensures { Roomy room result
-        × Adds room (extensions (decode_all records.now) (largest - 1)
+        × Roomy room found }
+    ensures roomy { IfOk result (Roomy room) }
+    ensures adds { Adds room (extensions (decode_all records.now) (largest - 1)
         (start (signature (decode_all records.now)) a))
         out.old out.new found result }
 {
@@ -219,7 +219,7 @@ fn begin(
         &none,
         &mut front,
         &mut latest,
-        16,
+        None,
         a,
     );
     extend(
@@ -261,19 +261,20 @@ fn search_first(
     out: &mut [u8],
     room: usize,
     found: Found,
-) -> Found
+) -> Result<Found, Full>
     requires { Ready records.now holding.now predecessors.now writers.now matches.now
         next.now blocks.now
         × Leading (decode_all records.now) 0 tasks 0 lead.now
         × (1 ≤ a) × (2 * a ≤ length records.now) × T (is_acquire (decode_all records.now) a)
         × (2 ≤ largest) × (largest ≤ largest_pattern) × (length path.old ≡ largest_pattern)
-        × Roomy room found × (found.full ≡ false) }
-    ensures { Roomy room result × Adds room (beginning (decode_all records.now) (largest - 1) a)
+        × Roomy room found }
+    ensures roomy { IfOk result (Roomy room) }
+    ensures adds { Adds room (beginning (decode_all records.now) (largest - 1) a)
         out.old out.new found result }
 {
     let mut back = [0u64; 16];
     if !pruning::leads_back(records, holding, lead, a, &mut back, largest) {
-        return found;
+        return Ok(found);
     }
     let mut beside = [0u64; 64];
     pruning::note_leads(
@@ -286,7 +287,7 @@ fn search_first(
         &mut beside,
     );
     if !pruning::leads_back(records, holding, &beside, a, &mut back, largest) {
-        return found;
+        return Ok(found);
     }
     begin(
         records,
@@ -319,11 +320,12 @@ pub fn search_all(
     largest: usize,
     out: &mut [u8],
     room: usize,
-) -> Found
+) -> Result<Found, Full>
     requires { Ready records.now holding.now predecessors.now writers.now matches.now
         next.now blocks.now
         × (2 ≤ largest) × (largest ≤ largest_pattern) }
-    ensures { Roomy room result × Taken room (deadlocks (decode_all records.now) largest)
+    ensures roomy { IfOk result (Roomy room) }
+    ensures taken { Taken room (deadlocks (decode_all records.now) largest)
         out.old out.new result }
 {
     let mut lead = [0u64; 64];
@@ -332,10 +334,9 @@ pub fn search_all(
     let mut found = Found {
         patterns: 0,
         bytes: 0,
-        full: false,
     };
-    let mut a = next[0] as usize;
-    while a != 0 {
+    let mut at = 0;
+    while let Some(a) = pruning::link(next, at) {
         found = search_first(
             records,
             holding,
@@ -351,11 +352,8 @@ pub fn search_all(
             out,
             room,
             found,
-        );
-        if found.full {
-            return found;
-        }
-        a = next[a] as usize;
+        )?;
+        at = a;
     }
-    found
+    Ok(found)
 }

@@ -1,7 +1,7 @@
 -- Blocks of 64 events with the locks that are held at their acquires, and the walk that passes over blocks.
 -- Assumes nothing.
 use Prim.Native.Nat.{ℕ, ◌+◌, ◌*◌, ◌/◌, ◌≤◌, ◌<◌}
-use mathlib.Core.Path.{◌≡◌, refl, ◌∙◌}
+use mathlib.Core.Path.{◌≡◌, ◌∙◌}
 use mathlib.Core.Logic.{⊎_elim, ◌≢◌}
 use mathlib.Core.Bool.{true, false, and-false}
 use mathlib.Core.List.{List}
@@ -9,16 +9,13 @@ use native.Mathlib.Omega.{arith}
 use lib.Dec.{T, T_not, not_T}
 use lib.Bits.{bit_or}
 use lib.ListN.{length, get_or, set, length-set}
-use borrow.Author.Tests.{eq-eqb, ne_eqb}
 use Rattle.model.specs.Lists.{has_bit}
 use Rattle.model.specs.Trace.{Trace, object, is_acquire}
 use Rattle.model.specs.Relations.{held}
 use Rattle.laws.specs.Chain.{Chain, signature, fits}
-use Rattle.laws.specs.Walk.{First, up_to}
 use Rattle.laws.specs.Returning.{Covers}
-use Rattle.laws.proofs.Tests.{is_true, is_false, decided, equal?, at-most?}
+use Rattle.laws.proofs.Tests.{is_false, decided, equal?, at-most?}
 use Rattle.laws.proofs.Trace.{acquire-event}
-use Rattle.laws.proofs.Firsts.{Tried, tried-start, tried_skip, tried_found, tried-none}
 use Rattle.pruning.specs.Linked.{is_nested, Link, Marked, is_near}
 use Rattle.pruning.proofs.Links.{nested_acquire, nested-fits}
 use Rattle.pruning.proofs.Spreads.{covers_kept, covers_put}

@@ -1,7 +1,6 @@
 -- `chain::attempt` meets its contract: the laws say so of each outcome. Assumes nothing.
 use mathlib.Core.Path.{refl, sym, ◌∙◌}
 use mathlib.Core.List.{[], ◌∷◌, ◌++◌}
-use native.Mathlib.Omega.{arith}
 use lib.ListN.{get_or, take}
 use Rattle.model.specs.Recording.{decode_all}
 use Rattle.laws.specs.Frontier.{Before}

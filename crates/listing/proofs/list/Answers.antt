@@ -1,90 +1,83 @@
 -- `listing::list` meets its contract: the recording's questions, then 8, then what is delivered.
 -- Assumes nothing.
 use Prim.Native.Nat.{◌≤◌}
+use Rattle.std.specs.Prelude.{Ok, Err}
 use mathlib.Core.Path.{◌≡◌, sym, ap, ◌∙◌}
 use borrow.Author.Rules.{rules}
-use Rattle.model.specs.Answers.{Outcome}
+use Rattle.model.specs.Refused.{refusal}
 use Rattle.model.specs.Recording.{trace}
 use Rattle.model.specs.Listing.{deadlocks}
 use Rattle.model.specs.Calls.Questions.{outcome, permits_size}
 use Rattle.model.specs.Calls.Check.{check}
 use Rattle.model.specs.Calls.List.{largest_size}
-use Rattle.laws.specs.Answered.{refused_listing}
+use Rattle.laws.proofs.Results.{passed_on, is_refused, is_passed}
 use Rattle.laws.proofs.Questions.{check_bytes, part-trace, part_small, part_accepted}
 use Rattle.listing.specs.Delivered.{Delivered}
-use Rattle.listing.proofs.Answers.{list_unchecked, list_size, list_permitted, list_short, list_written}
+use Rattle.listing.proofs.Answers.{size_refused, size_permitted, list_unchecked, list_size, list_short}
+use Rattle.listing.proofs.Answers.{list_written}
 use Rattle.listing.proofs.list.Goals as goal
-use Rattle.listing.proofs.list.Goals.{After-list_records-found, Else-checked-ne0, Else-size-eq0}
+use Rattle.listing.proofs.list.Goals.{In_ok-check, In_ok-size}
 
 -- The recording is accepted.
-accepted : (c : goal.Else-checked-ne0) → (check c.args.recording.now).refusal
-    ≡ 0
-accepted c = sym (ap (λ (o : Outcome). o.refusal) c.check-checked.ensures) ∙ c.if-checked-ne0.false
+accepted : (c : In_ok-check) → (check c.args.recording.now).refusal ≡ 0
+accepted c = is_passed c.in_ok-check.field-0 _ c.in_ok-check.ensures
 
 -- The size is permitted.
-permitted : (c : goal.Else-size-eq0)
-    → (2 ≤ c.size_of-size.result) × (c.size_of-size.result ≤ 16)
-    × (permits_size c.args.largest ≡ outcome 0 0)
-    × (c.size_of-size.result ≡ largest_size c.args.largest)
-permitted c =
-    list_permitted c.args.recording.now c.args.largest c.args.out.now
-    (accepted (goal.at.Else-size-eq0 c).Else-checked-ne0) _ c.size_of-size.ensures c.if-size-eq0.false
+permitted : (c : In_ok-size) → (c.in_ok-size.size ≡ largest_size c.args.largest)
+    × (permits_size c.args.largest ≡ outcome 0 0) × (2 ≤ c.in_ok-size.size) × (c.in_ok-size.size ≤ 16)
+permitted c = size_permitted c.args.largest c.in_ok-size.ensures
 
--- What is delivered of the part is that of the recording.
-delivered : (c : goal.After-list_records-found)
-    → Delivered (deadlocks (trace c.args.recording.now) c.size_of-size.result)
-    c.args.out.now c.list_records-found.new.out c.list_records-found.result
-delivered c = rw (← (part-trace c.args.recording.now)) c.list_records-found.ensures
-
-pub returns-then-checked-ne0 : goal.returns-then-checked-ne0
-returns-then-checked-ne0 c =
-    let q = c.check-checked.ensures in
-    let (x, y) = list_unchecked c.args.recording.now c.args.largest c.args.out.now
-    (rw q at c.if-checked-ne0.true) in
-    record {
-      answer = c.unlisted.ensures ∙ ap (λ (o : Outcome). refused_listing o.refusal o.event) q ∙ sym x;
+pub returns-in_err-check : goal.returns-in_err-check
+returns-in_err-check c =
+    let q = c.in_err-check.ensures in
+    let (x, y) = list_unchecked c.args.recording.now c.args.largest c.args.out.now (is_refused _ _ q) in record {
+      answer = rw (passed_on c.from_residual.result _ c.from_residual.ensures.1) (sym (rw (← q) at x));
       output = sym y;
     }
 
-pub returns-then-size-eq0 : goal.returns-then-size-eq0
-returns-then-size-eq0 c =
+pub returns-in_err-size : goal.returns-in_err-size
+returns-in_err-size c =
+    let (q, p) = size_refused c.args.largest c.in_err-size.ensures in
     let (x, y) = list_size c.args.recording.now c.args.largest c.args.out.now
-    (accepted (goal.at.returns-then-size-eq0 c).Else-checked-ne0) _
-    c.size_of-size.ensures c.if-size-eq0.true in
-    record { answer = c.unlisted-then-size-eq0.ensures ∙ sym x; output = sym y }
+    (accepted (goal.at.returns-in_err-size c).In_ok-check) p in
+    let given = passed_on c.from_residual-in_err-size.result (refusal c.in_err-size.field-0.0 0)
+    c.from_residual-in_err-size.ensures.1 in
+    record { answer = rw (given, q) (sym x); output = sym y }
 
 pub slice_bounds-list_records-count : goal.slice_bounds-list_records-count
-slice_bounds-list_records-count c = (check_bytes c.args.recording.now
-    (accepted (goal.at.slice_bounds-list_records-count c).Else-checked-ne0)).0
+slice_bounds-list_records-count c =
+    (check_bytes c.args.recording.now (accepted (goal.at.slice_bounds-list_records-count c).In_ok-check)).0
 
 pub slice_bounds-list_records-start : goal.slice_bounds-list_records-start
 slice_bounds-list_records-start c =
     let h = (check_bytes c.args.recording.now
-    (accepted (goal.at.slice_bounds-list_records-start c).Else-checked-ne0)).0 in search rules
+    (accepted (goal.at.slice_bounds-list_records-start c).In_ok-check)).0 in search rules
 
-pub list_records-found-requires : goal.list_records-found-requires
-list_records-found-requires c =
+pub list_records-requires : goal.list_records-requires
+list_records-requires c =
     let b = c.args.recording.now in
-    let ok = accepted (goal.at.list_records-found-requires c).Else-checked-ne0 in
-    let size = permitted (goal.at.list_records-found-requires c).Else-size-eq0 in (
+    let ok = accepted (goal.at.list_records-requires c).In_ok-check in
+    let size = permitted (goal.at.list_records-requires c).In_ok-size in (
       part_small b ok (c.type_inv.recording 1).fits,
       part_accepted b ok,
-      size.0,
-      size.1,
+      size.2,
+      size.3,
     )
 
-pub returns-then-found : goal.returns-then-found
-returns-then-found c =
-    let size = permitted (goal.at.returns-then-found c).Else-size-eq0 in
-    let (x, y) = list_short c.args.recording.now c.args.largest c.args.out.now
-    (accepted (goal.at.returns-then-found c).Else-checked-ne0) _
-    size.2 size.3 _ _ (delivered (goal.at.returns-then-found c).After-list_records-found) c.if-found.true in
-    record { answer = c.unlisted-then-found.ensures ∙ sym x; output = y }
-
-pub returns : goal.returns
-returns c =
-    let size = permitted (goal.at.returns c).Else-size-eq0 in
-    let (x, y) = list_written c.args.recording.now c.args.largest c.args.out.now
-    (accepted (goal.at.returns c).Else-checked-ne0) _
-    size.2 size.3 _ _ (delivered (goal.at.returns c).After-list_records-found) c.if-found.false in
+pub returns-in-Ok : goal.returns-in-Ok
+returns-in-Ok c =
+    let b = c.args.recording.now in
+    let size = permitted (goal.at.returns-in-Ok c).In_ok-size in
+    let (x, y) = list_written b c.args.largest c.args.out.now
+    (accepted (goal.at.returns-in-Ok c).In_ok-check) size.1 _
+    (rw (← (part-trace b), ← size.0) c.in-Ok.ensures) in
     record { answer = x; output = y }
+
+pub returns-in-Err : goal.returns-in-Err
+returns-in-Err c =
+    let b = c.args.recording.now in
+    let size = permitted (goal.at.returns-in-Err c).In_ok-size in
+    let (x, y) = list_short b c.args.largest c.args.out.now
+    (accepted (goal.at.returns-in-Err c).In_ok-check) size.1 _
+    (rw (← (part-trace b), ← size.0) c.in-Err.ensures) in
+    record { answer = rw c.into.ensures (sym x); output = y }

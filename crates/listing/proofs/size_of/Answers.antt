@@ -3,15 +3,16 @@ use native.Mathlib.Omega.{arith}
 use Rattle.listing.proofs.Answers.{size_default, size_low, size_high, size_itself}
 use Rattle.listing.proofs.size_of.Goals as goal
 
-pub returns-then-largest-eq0 : goal.returns-then-largest-eq0
-returns-then-largest-eq0 c = size_default c.args.largest c.if-largest-eq0.true
+pub returns-in-0 : goal.returns-in-0
+returns-in-0 c = size_default c.args.largest c.in-0.is
 
-pub returns-then-largest-lt2 : goal.returns-then-largest-lt2
-returns-then-largest-lt2 c = size_low c.args.largest c.if-largest-eq0.false c.if-largest-lt2.true
+pub returns-in-2-to-16 : goal.returns-in-2-to-16
+returns-in-2-to-16 c = size_itself c.args.largest (λ q. omega (arith, c.in-2-to-16)) (omega (arith, c.in-2-to-16)) (omega (arith, c.in-2-to-16))
 
-pub returns-then-largest-gt16 : goal.returns-then-largest-gt16
-returns-then-largest-gt16 c = size_high c.args.largest c.if-largest-eq0.false c.if-largest-gt16.true
+pub returns-in_default : goal.returns-in_default
+returns-in_default c =
+    size_low c.args.largest (λ q. omega (arith, q, c.in_default)) (omega (arith, c.in_default))
 
-pub returns : goal.returns
-returns c = size_itself c.args.largest c.if-largest-eq0.false
-    (omega (arith, c.if-largest-lt2.false)) (omega (arith, c.if-largest-gt16.false))
+pub returns-in_default-2 : goal.returns-in_default-2
+returns-in_default-2 c =
+    size_high c.args.largest (λ q. omega (arith, q, c.in_default)) (omega (arith, c.in_default))

@@ -56,9 +56,11 @@ follows-requires c =
 
 pub returns-then-follows : goal.returns-then-follows
 returns-then-follows c =
-    let (d, y) = c.in-Some.ensures in
-    (d, walked_found _ _ (far (goal.at.returns-then-follows c).After-object-l) c.loop-x.invariant d y
-    (sym c.follows.ensures ∙ c.if-follows.true))
+    let (d, y) = c.in-Some.ensures in (
+      d,
+      walked_found _ _ (far (goal.at.returns-then-follows c).After-object-l) c.loop-x.invariant d y
+          (sym c.follows.ensures ∙ c.if-follows.true),
+    )
 
 pub loop-x-preserved : goal.loop-x-preserved
 loop-x-preserved c =

@@ -5,7 +5,7 @@ use lib.ListN.{length}
 use Rattle.std.specs.Prelude.{Some}
 use Rattle.model.specs.Recording.{decode_all}
 use Rattle.laws.proofs.Trace.{decode_all-length}
-use Rattle.pruning.specs.Linked.{is_nested, is_near, Earliest}
+use Rattle.pruning.specs.Linked.{is_nested, Earliest}
 use Rattle.pruning.proofs.Walks.{walked-start, walked-next, walked_last}
 use Rattle.pruning.proofs.Links.{linked_earliest}
 use Rattle.pruning.proofs.Blocks.{nested_near, near_missed}

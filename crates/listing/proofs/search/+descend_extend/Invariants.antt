@@ -1,12 +1,10 @@
 -- The cycle of `listing::search::descend` and `listing::search::extend`: its measures, and the invariant of
--- the
--- scan. Assumes nothing.
+-- the scan. Assumes nothing.
 use Prim.Native.Nat.{◌+◌, ◌-◌, ◌*◌}
 use mathlib.Core.Path.{◌≡◌}
 use lib.ListN.{length, take}
 use Rattle.model.specs.Recording.{decode_all}
 use Rattle.model.specs.Pattern.{largest_pattern}
-use Rattle.laws.proofs.Firsts.{to_visit}
 use Rattle.listing.specs.Open.{chain_at}
 use Rattle.listing.proofs.Scans.{Scanning}
 use Rattle.listing.proofs.Steps.{Kept}
@@ -20,16 +18,16 @@ decreases-descend l = 2 * l.k + 1
 abbrev pub decreases-extend : goal.decreases-extend
 decreases-extend l = 2 * l.left
 
--- The path and the output keep their lengths, and the path its chain; what the events before e add was
--- taken, and where a task's frontier is kept, it is that of an earlier event.
+-- The path and the output keep their lengths, and the path its chain; what the events so far add was taken, and
+-- where a task's frontier is kept, it is that of one of them.
 abbrev pub invariant-extend-loop-e : goal.invariant-extend-loop-e
 invariant-extend-loop-e l =
     (length l.path ≡ largest_pattern) × (take l.len l.path ≡ take l.len l.initial.path)
     × (length l.out ≡ length l.initial.out)
     × Scanning (decode_all l.records) (l.left - 1) (chain_at l.initial.path l.len l.tasks l.guards) l.room
-    l.excluded l.e l.initial.out l.out l.initial.taken l.taken
-    × Kept (decode_all l.records) (take l.len l.initial.path) l.of l.e l.grown l.newest
+    l.excluded l.at l.initial.out l.out l.initial.taken l.taken
+    × Kept (decode_all l.records) (take l.len l.initial.path) l.of l.at l.grown l.newest
 
--- The events from e on.
+-- The events after those.
 abbrev pub decreases-extend-loop-e : goal.decreases-extend-loop-e
-decreases-extend-loop-e l = to_visit (length (decode_all l.records)) l.e
+decreases-extend-loop-e l = length (decode_all l.records) - l.at

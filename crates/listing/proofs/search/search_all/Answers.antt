@@ -1,74 +1,70 @@
--- `listing::search::search_all` meets its contract: what the events before the next one begin has been
--- taken. Assumes nothing.
+-- `listing::search::search_all` meets its contract: what the events so far begin has been taken. Assumes
+-- nothing.
 use Prim.Native.Nat.{suc, ◌-◌}
 use mathlib.Core.Path.{◌≡◌, refl, ◌∙◌}
 use native.Mathlib.Omega.{arith}
+use lib.ListN.{length}
+use Rattle.std.specs.Prelude.{Some}
+use Rattle.model.specs.Recording.{decode_all}
 use Rattle.laws.proofs.Trace.{decode_all-length}
-use Rattle.listing.proofs.Beginnings.{searching-start, searching-next, searching_over}
-use Rattle.listing.proofs.Beginnings.{searching_end}
+use Rattle.laws.proofs.Results.{passed_on}
+use Rattle.pruning.specs.Linked.{is_nested, Earliest}
+use Rattle.pruning.proofs.Links.{nested_acquire, linked_earliest}
+use Rattle.listing.proofs.Beginnings.{searching-start, searching-next, searching_over, searching_end}
 use Rattle.listing.proofs.search.search_all.Goals as goal
+use Rattle.listing.proofs.search.search_all.Goals.{In-Some}
+
+-- The next nested acquire.
+next : (c : In-Some) → Earliest (is_nested (decode_all c.args.records.now)) (length (decode_all c.args.records.now))
+    c.loop-a.at (Some c.in-Some.a)
+next c =
+    linked_earliest (decode_all c.args.records.now) c.args.next.now c.requires.0.linked c.loop-a.at
+    c.loop-a.invariant.2.high _ c.in-Some.ensures
 
 pub loop-a-init : goal.loop-a-init
-loop-a-init c = (
-  refl,
-  refl,
-  searching-start (c.requires.0.linked.link 0 (omega arith))
-      (record { bytes_le = omega arith; patterns_le = omega arith }) refl refl refl,
-)
+loop-a-init c = (refl, refl, searching-start)
 
-pub search_first-found-requires : goal.search_first-found-requires
-search_first-found-requires c =
+pub link-requires : goal.link-requires
+link-requires c =
+    omega (arith, c.loop-a.invariant.2.high, decode_all-length c.args.records.now, c.requires.0.short,
+    c.requires.0.linked.long)
+
+pub search_first-requires : goal.search_first-requires
+search_first-requires c =
     let l = c.loop-a in
-    let e = l.invariant.2.event c.loop-a-test.true in (
+    let (d, y) = next (goal.at.search_first-requires c).In-Some in
+    let e = y.passes d in (
       c.requires.0,
       c.note_leads.ensures,
-      e.0,
+      omega (arith, e.0),
       omega (arith, e.1, decode_all-length c.args.records.now),
-      e.2,
+      nested_acquire _ c.in-Some.a e.2,
       c.requires.1,
       c.requires.2,
       l.invariant.0,
       l.invariant.2.roomy,
-      l.invariant.2.unfilled,
     )
 
-pub returns-then-found : goal.returns-then-found
-returns-then-found c =
-    let l = c.loop-a in
-    let done = c.search_first-found.ensures in
-    let size : c.args.largest ≡ suc (c.args.largest - 1) = omega (arith, c.requires.1) in (
-      done.0,
-      rw size (searching_over l.invariant.2 c.loop-a-test.true done.1
-          (omega (arith, c.requires.1, c.requires.2)) c.if-found.true),
-    )
-
-pub offset_bounds-next-a : goal.offset_bounds-next-a
-offset_bounds-next-a c =
-    let e = c.loop-a.invariant.2.event
-    c.loop-a-test.true in
-    omega (arith, e.1, decode_all-length c.args.records.now, c.requires.0.short)
-
-pub bounds-next-a : goal.bounds-next-a
-bounds-next-a c =
-    let e = c.loop-a.invariant.2.event c.loop-a-test.true
-    in
-    omega (arith, e.1, decode_all-length c.args.records.now, c.requires.0.short, c.requires.0.linked.long)
+pub returns-in_err-found-clause-taken : goal.returns-in_err-found-clause-taken
+returns-in_err-found-clause-taken c =
+    let (d, y) = next (goal.at.returns-in_err-found-clause-taken c).In-Some in
+    let size : c.args.largest ≡ suc (c.args.largest - 1) = omega (arith, c.requires.1) in
+    rw (passed_on c.from_residual.result _ c.from_residual.ensures.1, size)
+    (searching_over c.loop-a.invariant.2 d y (omega (arith, c.requires.1, c.requires.2)) c.in_err-found.ensures.adds)
 
 pub loop-a-preserved : goal.loop-a-preserved
 loop-a-preserved c =
     let l = c.loop-a in
-    let d = c.loop-a-test.true in
-    let done = c.search_first-found.ensures in (
-      c.search_first-found.auto.path ∙ l.invariant.0,
-      c.search_first-found.auto.out ∙ l.invariant.1,
-      searching-next l.invariant.2 d done.1 (c.requires.0.linked.link l.a (l.invariant.2.event d).1)
-          done.0 c.if-found.false,
+    let (d, y) = next (goal.at.loop-a-preserved c).In-Some in
+    let done = c.in_ok-found.ensures in (
+      c.search_first.auto.path ∙ l.invariant.0,
+      c.search_first.auto.out ∙ l.invariant.1,
+      searching-next l.invariant.2 d y done.adds done.roomy,
     )
 
-pub returns : goal.returns
-returns c =
+pub returns-clause-taken : goal.returns-clause-taken
+returns-clause-taken c =
     let l = c.loop-a in
-    let q : c.args.largest ≡ suc (c.args.largest - 1) = omega (arith, c.requires.1) in (
-      l.invariant.2.roomy,
-      rw q (searching_end l.invariant.2 c.loop-a-test.false (omega (arith, c.requires.1, c.requires.2))),
-    )
+    let q : c.args.largest ≡ suc (c.args.largest - 1) = omega (arith, c.requires.1) in
+    rw q (searching_end l.invariant.2 (linked_earliest (decode_all c.args.records.now) c.args.next.now
+    c.requires.0.linked l.at l.invariant.2.high _ c.in_default.ensures) (omega (arith, c.requires.1, c.requires.2)))

@@ -1,18 +1,17 @@
--- `listing::search::search_all` meets its contract: what the events before the next one begin has been
--- taken. Assumes nothing.
+-- `listing::search::search_all` meets its contract: what the events so far begin has been taken. Assumes
+-- nothing.
 use Prim.Native.Nat.{◌-◌}
 use mathlib.Core.Path.{◌≡◌}
 use lib.ListN.{length}
 use Rattle.model.specs.Recording.{decode_all}
 use Rattle.model.specs.Pattern.{largest_pattern}
-use Rattle.laws.proofs.Firsts.{to_visit}
 use Rattle.listing.proofs.Beginnings.{Searching}
 use Rattle.listing.proofs.search.search_all.Given as goal
 
 abbrev pub invariant-loop-a : goal.invariant-loop-a
 invariant-loop-a l =
     (length l.path ≡ largest_pattern) × (length l.out ≡ length l.initial.out)
-    × Searching (decode_all l.records) (l.largest - 1) l.room l.a l.initial.out l.out l.found
+    × Searching (decode_all l.records) (l.largest - 1) l.room l.at l.initial.out l.out l.found
 
 abbrev pub decreases-loop-a : goal.decreases-loop-a
-decreases-loop-a l = to_visit (length (decode_all l.records)) l.a
+decreases-loop-a l = length (decode_all l.records) - l.at

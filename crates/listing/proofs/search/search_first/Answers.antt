@@ -27,30 +27,20 @@ leads_back-requires c =
       c.requires.6,
     )
 
-pub returns-then-not-leads_back : goal.returns-then-not-leads_back
-returns-then-not-leads_back c =
-    let b = c.args.records.now in
-    let back = c.leads_back.ensures in (
-      c.requires.8,
-      rw (beginning_nowhere (decode_all b) c.args.a c.args.largest _ c.requires.4 c.requires.5 back.0
-          (sym back.1 ∙ c.if-not-leads_back.true)) (adds_none c.args.room _ c.args.found),
-    )
+pub returns-then-not-leads_back-clause-adds : goal.returns-then-not-leads_back-clause-adds
+returns-then-not-leads_back-clause-adds c =
+    let back = c.leads_back.ensures in
+    rw (beginning_nowhere (decode_all c.args.records.now) c.args.a c.args.largest _ c.requires.4 c.requires.5 back.0
+        (sym back.1 ∙ c.if-not-leads_back.true)) (adds_none c.args.room _ c.args.found)
 
-pub returns-then-not-leads_back-2 : goal.returns-then-not-leads_back-2
-returns-then-not-leads_back-2 c =
-    let b = c.args.records.now in
-    let back = c.leads_back-2.ensures in (
-      c.requires.8,
-      rw (beginning_nowhere (decode_all b) c.args.a c.args.largest _ c.requires.4 c.requires.5 back.0
-          (sym back.1 ∙ c.if-not-leads_back-2.true)) (adds_none c.args.room _ c.args.found),
-    )
+pub returns-then-not-leads_back-2-clause-adds : goal.returns-then-not-leads_back-2-clause-adds
+returns-then-not-leads_back-2-clause-adds c =
+    let back = c.leads_back-2.ensures in
+    rw (beginning_nowhere (decode_all c.args.records.now) c.args.a c.args.largest _ c.requires.4 c.requires.5 back.0
+        (sym back.1 ∙ c.if-not-leads_back-2.true)) (adds_none c.args.room _ c.args.found)
 
-pub returns : goal.returns
-returns c =
+pub returns-clause-adds : goal.returns-clause-adds
+returns-clause-adds c =
     let b = c.args.records.now in
-    let done = c.begin.ensures in (
-      done.0,
-      rw (beginning_acquire (decode_all b) _ c.args.a
-          (is_true (is_acquire (decode_all b) c.args.a) c.requires.4))
-          done.1,
-    )
+    rw (beginning_acquire (decode_all b) _ c.args.a (is_true (is_acquire (decode_all b) c.args.a) c.requires.4))
+    c.begin.ensures.adds
