@@ -1,11 +1,10 @@
 -- What visiting an event leaves, by its operation and the latest acquire of its lock. Assumes nothing.
 use Prim.Native.Nat.{ℕ, ◌*◌, ◌≤◌, min}
-use mathlib.Core.Path.{◌≡◌, refl, sym, ap, ◌∙◌}
-use mathlib.Core.Bool.{true, false, cond}
+use mathlib.Core.Path.{◌≡◌, refl, ◌∙◌}
+use mathlib.Core.Bool.{true, false}
 use mathlib.Core.Logic.{◌≢◌}
 use mathlib.Core.List.{List}
 use native.Mathlib.Omega.{arith}
-use lib.Dec.{eqb}
 use lib.ListN.{length, get_or}
 use borrow.Author.Tests.{eq-eqb, ne_eqb}
 use Rattle.model.specs.Trace.{Trace, task, object, is_acquire}
@@ -16,27 +15,7 @@ use Rattle.laws.specs.Frontier.{raised, wanted}
 use Rattle.laws.proofs.Operations.{is_read_op, is_join-none, is_acquire-none}
 use Rattle.laws.proofs.Awaited.{awaited-none, awaited_below}
 use Rattle.laws.proofs.Marks.{WithMark, marked_uncounted, marked_outer}
-use Rattle.recording.specs.declared.Op.{Op}
-use Rattle.recording.specs.declared.Op.TheVariants.{Read, Write, Acquire, Release}
-use Rattle.recording.specs.Asked.{code}
 use Rattle.frontier.specs.Visit.{wanted_earlier, latest_with, wanted_with}
-
--- ---- operations
-
--- The operation with a number.
-op_of : ℕ → Op
-op_of n = cond (eqb n 0) Read (cond (eqb n 1) Write (cond (eqb n 2) Acquire Release))
-
-op_of_code : (o : Op) → op_of (code o) ≡ o
-unfolding op_of
-op_of_code Read = refl
-op_of_code Write = refl
-op_of_code Acquire = refl
-op_of_code Release = refl
-
--- Two operations have two numbers.
-pub code_apart : (o p : Op) → o ≢ p → code o ≢ code p
-code_apart o p d q = d (sym (op_of_code o) ∙ ap op_of q ∙ op_of_code p)
 
 -- ---- by what the event is
 

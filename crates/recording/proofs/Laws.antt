@@ -1,7 +1,7 @@
 -- What one event is refused with and what it does to the tables of the check, by its operation and object.
 -- Assumes nothing.
 use Prim.Native.Nat.{ℕ, suc, ◌+◌, ◌-◌, ◌≤◌, ◌<◌}
-use mathlib.Core.Path.{◌≡◌, refl, sym, ◌∙◌}
+use mathlib.Core.Path.{◌≡◌, refl, sym, ap, ◌∙◌}
 use mathlib.Core.Logic.{◌≢◌}
 use mathlib.Core.Bool.{Bool, true, false, cond, ◌||◌}
 use mathlib.Core.List.{List}
@@ -68,19 +68,20 @@ code_release Write h d = absurd (omega (arith, h))
 code_release Acquire h d = absurd (d refl)
 code_release Release h d = refl
 
--- No other operation has an acquire's number,
-pub code_acquire : (o : Op) → o ≢ Acquire → code o ≢ 2
-code_acquire Read d = omega arith
-code_acquire Write d = omega arith
-code_acquire Acquire d = absurd (d refl)
-code_acquire Release d = omega arith
+-- The operation with a number.
+op_of : ℕ → Op
+op_of n = cond (eqb n 0) Read (cond (eqb n 1) Write (cond (eqb n 2) Acquire Release))
 
--- nor a release's.
-pub code-no_release : (o : Op) → o ≢ Release → code o ≢ 3
-code-no_release Read d = omega arith
-code-no_release Write d = omega arith
-code-no_release Acquire d = omega arith
-code-no_release Release d = absurd (d refl)
+op_of_code : (o : Op) → op_of (code o) ≡ o
+unfolding op_of
+op_of_code Read = refl
+op_of_code Write = refl
+op_of_code Acquire = refl
+op_of_code Release = refl
+
+-- Two operations have two numbers.
+pub code_apart : (o p : Op) → o ≢ p → code o ≢ code p
+code_apart o p d q = d (sym (op_of_code o) ∙ ap op_of q ∙ op_of_code p)
 
 -- ---- an event
 

@@ -86,14 +86,6 @@ pub fn operation(records: &[u8], e: usize) -> Op
     }
 }
 
-// TEMP
-pub fn opcode(records: &[u8], e: usize) -> u8
-    requires { (1 ≤ e) × (2 * e ≤ length records.now) }
-    ensures { (result < 4) × (result ≡ (at (decode_all records.now) e).op) }
-{
-    records[2 * (e - 1)] >> 6
-}
-
 // The task of event e: the next 4 bits.
 pub fn task(records: &[u8], e: usize) -> u8
     requires { (1 ≤ e) × (2 * e ≤ length records.now) }

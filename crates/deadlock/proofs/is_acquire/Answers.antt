@@ -4,7 +4,7 @@ use Rattle.laws.proofs.WellFormed.{WellFormed}
 use Rattle.laws.proofs.Questions.{events_sound}
 use Rattle.deadlock.proofs.Chains.{acquires-not, acquires-task, acquires_own}
 use Rattle.recording.specs.declared.Op.TheVariants.{Acquire}
-use Rattle.frontier.proofs.Leaves.{code_apart}
+use Rattle.recording.proofs.Laws.{code_apart}
 use mathlib.Core.Path.{refl}
 use borrow.Author.Tests.{le-ltb}
 use Rattle.deadlock.proofs.is_acquire.Goals as goal

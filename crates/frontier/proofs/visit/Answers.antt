@@ -10,7 +10,8 @@ use Rattle.laws.proofs.Marks.{WithMark, marked_outer}
 use Rattle.laws.proofs.WellFormed.{acquire_lt}
 use Rattle.laws.proofs.Questions.{events_sound}
 use Rattle.recording.specs.declared.Op.TheVariants.{Acquire}
-use Rattle.frontier.proofs.Leaves.{code_apart, other_visited, uncounted_visited, acquire_visited, awaited_in}
+use Rattle.recording.proofs.Laws.{code_apart}
+use Rattle.frontier.proofs.Leaves.{other_visited, uncounted_visited, acquire_visited, awaited_in}
 use Rattle.frontier.proofs.visit.Goals as goal
 use Rattle.frontier.proofs.visit.Goals.{Start}
 

@@ -3,7 +3,8 @@ use mathlib.Core.Path.{refl}
 use native.Mathlib.Omega.{arith}
 use Rattle.model.specs.Recording.{decode_all}
 use Rattle.laws.proofs.Questions.{events_sound}
-use Rattle.recording.proofs.Laws.{code-no_release}
+use Rattle.recording.specs.declared.Op.TheVariants.{Release}
+use Rattle.recording.proofs.Laws.{code_apart}
 use Rattle.order.proofs.Laws.{WithObject, names-task, joined-task, joined_lock, joined_other}
 use Rattle.order.proofs.joined_of.Goals as goal
 use Rattle.order.proofs.joined_of.Goals.{After-object-o}
@@ -13,7 +14,7 @@ unpacked : (c : goal.After-object-o) → WithObject (decode_all c.args.records.n
 unpacked c = record { op_is = (omega arith, c.in-Release.ensures); object_is = c.object-o.ensures }
 
 pub returns-in_default : goal.returns-in_default
-returns-in_default c = joined_other _ _ c.operation.ensures (code-no_release c.operation.result c.in_default.not-Release)
+returns-in_default c = joined_other _ _ c.operation.ensures (code_apart c.operation.result Release c.in_default.not-Release)
 
 pub returns-then-o-lt64 : goal.returns-then-o-lt64
 returns-then-o-lt64 c =

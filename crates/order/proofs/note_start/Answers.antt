@@ -4,7 +4,8 @@ use mathlib.Core.Path.{refl}
 use native.Mathlib.Omega.{arith}
 use Rattle.model.specs.Recording.{decode_all}
 use Rattle.laws.proofs.Questions.{events_sound}
-use Rattle.recording.proofs.Laws.{code_acquire}
+use Rattle.recording.specs.declared.Op.TheVariants.{Acquire}
+use Rattle.recording.proofs.Laws.{code_apart}
 use Rattle.order.proofs.Laws.{WithObject, names-task, start_noted, lock_noted, other_noted}
 use Rattle.order.proofs.note_start.Goals as goal
 use Rattle.order.proofs.note_start.Goals.{After-object-o}
@@ -20,7 +21,7 @@ small c = names-task (unpacked c) (events_sound c.args.records.now c.requires.3)
 pub returns-in_default : goal.returns-in_default
 returns-in_default c =
     other_noted _ _ c.operation.ensures c.requires.5 c.requires.6
-    (code_acquire c.operation.result c.in_default.not-Acquire)
+    (code_apart c.operation.result Acquire c.in_default.not-Acquire)
 
 pub returns-else-o-ge64 : goal.returns-else-o-ge64
 returns-else-o-ge64 c =

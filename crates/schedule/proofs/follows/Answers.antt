@@ -9,7 +9,7 @@ use Rattle.model.specs.Recording.{decode_all}
 use Rattle.laws.proofs.Trace.{record-event}
 use Rattle.laws.proofs.Questions.{events_sound}
 use Rattle.recording.specs.declared.Op.TheVariants.{Read, Acquire}
-use Rattle.frontier.proofs.Leaves.{code_apart}
+use Rattle.recording.proofs.Laws.{code_apart}
 use Rattle.schedule.proofs.Asking.{Asked}
 use Rattle.laws.proofs.Marks.{marked_outer}
 use Rattle.laws.proofs.WellFormed.{acquire_lt}

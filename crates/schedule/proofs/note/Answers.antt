@@ -8,7 +8,7 @@ use Rattle.recording.specs.declared.Op.{Op}
 use Rattle.recording.specs.declared.Op.TheVariants.{Write, Acquire}
 use Rattle.recording.specs.Asked.{code}
 use Rattle.recording.proofs.Laws.{code_lt}
-use Rattle.frontier.proofs.Leaves.{code_apart}
+use Rattle.recording.proofs.Laws.{code_apart}
 use Rattle.laws.proofs.Questions.{events_sound}
 use Rattle.laws.proofs.Operations.{is_acquire-none}
 use Rattle.laws.proofs.Marks.{marked_uncounted, marked_outer}
