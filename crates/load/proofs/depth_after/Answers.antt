@@ -45,7 +45,7 @@ returns-in-Acquire c =
     c.if-object-lock.false c.requires.5 c.in-Acquire.ensures
 
 pub overflow_sub-result : goal.overflow_sub-result
-overflow_sub-result c = (back (goal.at.overflow_sub-result c).In-Release).0
+overflow_sub-result c = omega (arith, (back (goal.at.overflow_sub-result c).In-Release).0)
 
 pub returns-in-Release : goal.returns-in-Release
 returns-in-Release c = (back (goal.at.returns-in-Release c).In-Release).1
