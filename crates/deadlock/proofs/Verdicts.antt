@@ -19,7 +19,7 @@ use Rattle.laws.specs.Frontier.{wanted, Advanced, Before}
 use Rattle.laws.proofs.WellFormed.{WellFormed}
 use Rattle.laws.proofs.Before.{before-extend, before_deadlock}
 use Rattle.laws.proofs.Pattern.{lent_events}
-use Rattle.deadlock.specs.Judged.{judged, Reached}
+use Rattle.deadlock.specs.Judged.{judged}
 
 module _ (σ : Trace) (ns : List ℕ) (i : ℕ) (inside : i < length ns) where
   -- One event more of the frontier's list.
@@ -47,8 +47,3 @@ module _ (σ : Trace) (p : List ℕ) where
     unfolding judged
     judged-verdict front latest v z q =
         rw (y, q, before_deadlock σ (numbers p) front latest z (lent_events σ p y))
-
-  -- The frontier is that of the closure.
-  pub judged_reached : (front latest : List ℕ) → Before σ (numbers p) front latest → Reached σ (numbers p)
-      front
-  judged_reached front latest z = record { long = z.settled.front_ok.long; members = z.members }

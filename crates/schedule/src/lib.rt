@@ -233,8 +233,8 @@ pub fn witnessed(
     leaves_next(records, predecessors, pattern, &last)
 }
 
-// Decides the bytes of a pattern and a schedule: whether the second witnesses the first, or nothing where that
-// is no pattern.
+// Decides the bytes of a pattern and a schedule: whether the second witnesses the first, or nothing where
+// that is no pattern.
 fn decide(
     records: &[u8],
     holding: &[u64],

@@ -11,7 +11,7 @@ use borrow.Author.Rules.{rules}
 use lib.ListN.{get_or}
 use Rattle.laws.proofs.Before.{before-start}
 use Rattle.laws.proofs.Pattern.{lent_events}
-use Rattle.deadlock.proofs.Verdicts.{judged-none, judged-verdict, judged_reached}
+use Rattle.deadlock.proofs.Verdicts.{judged-none, judged-verdict}
 use Rattle.deadlock.proofs.decide.Goals as goal
 use Rattle.deadlock.proofs.decide.Goals.{Else-not-lends_pattern}
 
@@ -49,23 +49,18 @@ avoids-requires-clause-events c = λ i e h k.
     (numbers_inside p h) is in
     (x, z)
 
-pub returns-then-avoids : goal.returns-then-avoids
-returns-then-avoids c =
-    let σ = decode_all c.args.records.now in
+pub returns-then-avoids-clause-decided : goal.returns-then-avoids-clause-decided
+returns-then-avoids-clause-decided c =
     let p = c.args.pattern.now in
-    let z = c.reach.ensures in
-    let v = c.avoids.ensures (numbers p) (numbers-length p, λ i e h k. search rules) in record {
-      decided = sym (judged-verdict σ p
-          (pattern-lent (goal.at.returns-then-avoids c).Else-not-lends_pattern) _ _
-          true z (sym c.if-avoids.true ∙ v));
-      reached = λ _. judged_reached σ p _ _ z;
-    }
+    let v = c.avoids.ensures (numbers p) (numbers-length p, λ i e h k. search rules) in
+    sym (judged-verdict (decode_all c.args.records.now) p
+    (pattern-lent (goal.at.returns-then-avoids-clause-decided c).Else-not-lends_pattern) _ _
+    true c.reach.ensures (sym c.if-avoids.true ∙ v))
 
 pub returns-clause-decided : goal.returns-clause-decided
 returns-clause-decided c =
-    let σ = decode_all c.args.records.now in
     let p = c.args.pattern.now in
     let v = c.avoids.ensures (numbers p) (numbers-length p, λ i e h k. search rules) in
-    sym (judged-verdict σ p
+    sym (judged-verdict (decode_all c.args.records.now) p
     (pattern-lent (goal.at.returns-clause-decided c).Else-not-lends_pattern) _ _
     false c.reach.ensures (sym c.if-avoids.false ∙ v))
