@@ -7,7 +7,8 @@ use mathlib.Core.List.{List, [], ◌∷◌, ◌++◌}
 use native.Mathlib.Omega.{arith}
 use lib.Dec.{T, T_not, not_T, leb}
 use Rattle.std.specs.Prelude.{Option, Some, None}
-use lib.ListN.{length, get_or}
+use lib.ListN.{length, get_or, take}
+use lib.Seq.{get_or-take, length-take-le}
 use Rattle.model.specs.Lists.{all, has_bit}
 use Rattle.model.specs.Trace.{Trace, task, object, is_event}
 use Rattle.model.specs.Relations.{predecessor, held}
@@ -23,6 +24,7 @@ use Rattle.laws.proofs.Trace.{is_event_iff}
 use Rattle.laws.proofs.WellFormed.{WellFormed}
 use Rattle.laws.proofs.Pattern.{events_inside}
 use Rattle.laws.proofs.Before.{before-extend, before_deadlock}
+use Rattle.deadlock.specs.Judged.{Gives}
 use Rattle.chain.specs.declared.Trial.TheVariants.{Success, Failure, TaskFailure, Skipped}
 use Rattle.chain.specs.Attempted.{Along, Reusable, Attempted}
 
@@ -34,6 +36,12 @@ pub path_more : (σ : Trace) (p : List ℕ) (e : ℕ) → T (all (is_event σ) p
 path_more σ p e t h k =
     let event : T (is_event σ e) = (is_event_iff σ e).1 (h, k) in
     rw (all_append (is_event σ) p (e ∷ []), and-true) (and_i (all (is_event σ) p) _ t event)
+
+-- What gives the numbers of a path gives those of its front.
+pub front_given : (path : List ℕ) (len : ℕ) → len ≤ length path → (given : ℕ → ℕ → Type 0)
+    → ((i e : ℕ) → i < len → given i e → e ≡ get_or path i 0) → Gives given len (take len path)
+front_given path len h given is =
+    (length-take-le len path h, λ i e l k. is i e l k ∙ sym (get_or-take len path i 0 l))
 
 module _ (σ : Trace) (k : ℕ) (p : List ℕ) (first e : ℕ) where
   -- A lock that does not lead back.

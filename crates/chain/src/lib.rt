@@ -88,22 +88,6 @@ pub fn grow(
     );
 }
 
-// No event of the path is in the set of the frontier.
-fn avoids_path(records: &[u8], path: &[u16], len: usize, front: &[u16]) -> bool
-    requires { (len ≤ length path.now) × T (all (is_event (decode_all records.now)) (take len path.now))
-        × (length front.now ≡ tasks) }
-    ensures { result ≡ all (λ f. not (leb f (get_or front.now
-        (task (decode_all records.now) f) 0)))
-        (take len path.now) }
-{
-    for e in &path[..len] {
-        if frontier::contains(records, front, *e as usize) {
-            return false;
-        }
-    }
-    true
-}
-
 // Attempts the acquire e after the events of the path, with at most k more after it. The frontier becomes that of
 // the closure of their predecessors, unless e is skipped: then it is as before.
 pub fn attempt(
@@ -148,7 +132,7 @@ pub fn attempt(
         of,
         e,
     );
-    if !avoids_path(records, path, len, grown) {
+    if !deadlock::avoids(records, len, |i| path[i], grown) {
         return Trial::TaskFailure;
     }
     if frontier::contains(records, grown, e) {

@@ -1,11 +1,14 @@
 -- `chain::attempt` meets its contract: the laws say so of each outcome. Assumes nothing.
-use mathlib.Core.Path.{refl, sym, ◌∙◌}
+use mathlib.Core.Path.{◌≡◌, refl, sym, ◌∙◌}
 use mathlib.Core.List.{[], ◌∷◌, ◌++◌}
+use native.Mathlib.Omega.{arith}
 use lib.ListN.{get_or, take}
+use borrow.Author.Rules.{rules}
+use Rattle.laws.proofs.Passing.{listed-event}
 use Rattle.model.specs.Recording.{decode_all}
 use Rattle.laws.specs.Frontier.{Before}
 use Rattle.laws.proofs.Trace.{record-event}
-use Rattle.chain.proofs.Laws.{attempted_nowhere, attempted_met, attempted_itself, attempted_deadlock}
+use Rattle.chain.proofs.Laws.{front_given, attempted_nowhere, attempted_met, attempted_itself, attempted_deadlock}
 use Rattle.chain.proofs.attempt.Goals as goal
 use Rattle.chain.proofs.attempt.Goals.{After-grow}
 
@@ -24,17 +27,27 @@ returns-then-not-lock_in_mask c = (
   (λ q. (refl, refl)),
 )
 
-pub returns-then-not-avoids_path : goal.returns-then-not-avoids_path
-returns-then-not-avoids_path c = (
+pub returns-then-not-avoids : goal.returns-then-not-avoids
+returns-then-not-avoids c = (
   attempted_met (decode_all c.args.records.now) c.args.k (take c.args.len c.args.path.now)
       (get_or c.args.path.now 0 0) c.args.e _ _ c.requires.5 (record-event _ c.args.e (
         c.requires.8,
         c.requires.9,
       ))
-      (grown (goal.at.returns-then-not-avoids_path c).After-grow)
-      (sym c.avoids_path.ensures ∙ c.if-not-avoids_path.true),
+      (grown (goal.at.returns-then-not-avoids c).After-grow)
+      (sym (c.avoids.ensures _ (front_given c.args.path.now c.args.len c.requires.4 _ (λ i e h k. search rules))) ∙ c.if-not-avoids.true),
   (λ q. cc),
 )
+
+pub avoids-requires-clause-events : goal.avoids-requires-clause-events
+avoids-requires-clause-events c = λ i e h k.
+    let a = c.args in
+    let is : e ≡ get_or a.path.now i 0 = search rules in
+    let (size, same) = front_given a.path.now a.len c.requires.4 (λ i e. e ≡ get_or a.path.now i 0)
+    (λ i e h k. k) in
+    let (x, y, z) = listed-event a.records.now (take a.len a.path.now) i c.requires.5 (omega arith)
+    (same i e h is) in
+    (x, z)
 
 pub returns-then-contains : goal.returns-then-contains
 returns-then-contains c = (
@@ -44,7 +57,7 @@ returns-then-contains c = (
         c.requires.9,
       ))
       (grown (goal.at.returns-then-contains c).After-grow)
-      (sym c.avoids_path.ensures ∙ c.if-not-avoids_path.false)
+      (sym (c.avoids.ensures _ (front_given c.args.path.now c.args.len c.requires.4 _ (λ i e h k. search rules))) ∙ c.if-not-avoids.false)
       (sym c.contains.ensures ∙ c.if-contains.true),
   (λ q. cc),
 )
@@ -57,7 +70,7 @@ returns c = (
         c.requires.9,
       ))
       (grown (goal.at.returns c).After-grow)
-      (sym c.avoids_path.ensures ∙ c.if-not-avoids_path.false)
+      (sym (c.avoids.ensures _ (front_given c.args.path.now c.args.len c.requires.4 _ (λ i e h k. search rules))) ∙ c.if-not-avoids.false)
       (sym c.contains.ensures ∙ c.if-contains.false),
   (λ q. cc),
 )
