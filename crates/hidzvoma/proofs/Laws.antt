@@ -8,6 +8,11 @@ use native.Mathlib.Omega.{arith}
 use lib.Dec.{eqb, leb, ltb}
 use lib.ListN.{length, get_or, drop, length-drop}
 use borrow.Author.Tests.{eqb-false}
+use Rattle.model.specs.declared.Question.{Question}
+use Rattle.model.specs.declared.Question.TheVariants.{TwoBytes, Format, Length, Object, LockFree, LockHeld}
+use Rattle.model.specs.declared.Question.TheVariants.{Written, LargestSize, EventNumber, Pattern, SetLength}
+use Rattle.model.specs.declared.Question.TheVariants.{SpareBits, OutputLength, LockNumber, TaskNew, TaskOpen}
+use Rattle.model.specs.Refused.{number}
 use Rattle.model.specs.Answers.{Outcome}
 use Rattle.model.specs.Recording.{format, event_count, trace}
 use Rattle.model.specs.WellFormed.{is_free, is_new, is_over, joins_own, fault, first_fault}
@@ -30,44 +35,21 @@ use Rattle.laws.proofs.Questions.{check_short, check-format, check-length, check
 
 -- ---- refusals are small
 
--- A number of a question, and of an event.
-pub record Small (o : Outcome) : Type 0 where
-  pub refusal_le : o.refusal ≤ 16
-  pub event_le : o.event ≤ 4095
+-- The event that causes a refusal has a small number: 0 where it is by a question about an argument,
+asked_event : (n : ℕ) (b : Bool) → (asked n b).event ≤ 4095
+asked_event n true = omega arith
+asked_event n false = omega arith
 
--- A question's.
-pub asked_small : (n : ℕ) (b : Bool) → n ≤ 16 → Small (asked n b)
-asked_small n true l = record { refusal_le = omega arith; event_le = omega arith }
-asked_small n false l = record { refusal_le = l; event_le = omega arith }
+-- that of either in a chain,
+then_event : (o p : Outcome) → o.event ≤ 4095 → p.event ≤ 4095 → (o then p).event ≤ 4095
+then_event o p s t = cond_elim (λ (x : Outcome). x.event ≤ 4095) (is_accepted o) p o (λ y. t) (λ n. s)
 
--- A chain's.
-pub then_small : (o p : Outcome) → Small o → Small p → Small (o then p)
-then_small o p s t = cond_elim Small (is_accepted o) p o (λ y. t) (λ n. s)
-
--- A fault's number.
-fault_le : (σ : Trace) (e : ℕ) → fault σ e ≤ 16
-unfolding fault
-fault_le σ e =
-    number ((has_acquire_op σ e || has_release_op σ e) && not (ltb (object σ e) sync_objects))
-    (enters σ e && not (is_free σ e)) (leaves σ e && not (holds σ e (task σ e) (object σ e)))
-    (is_read σ e && eqb (writer σ e) 0) (is_start σ e && not (is_new σ e)) (joins_own σ e || is_over σ e)
-  where
-    below : (b : Bool) (n r : ℕ) → n ≤ 16 → r ≤ 16 → cond b n r ≤ 16
-    below b n r h k = cond_elim (λ x. x ≤ 16) b n r (λ _. h) (λ _. k)
-
-    number : (a b c d f g : Bool)
-        → cond a 4 (cond b 5 (cond c 6 (cond d 7 (cond f 15 (cond g 16 0))))) ≤ 16
-    number a b c d f g =
-        below a 4 _ (omega arith) (below b 5 _ (omega arith) (below c 6 _ (omega arith)
-        (below d 7 _ (omega arith) (below f 15 _ (omega arith) (below g 16 0 (omega arith) (omega arith))))))
-
--- The events'.
-events_small : (σ : Trace) → length σ ≤ 4095 → Small (check_events σ)
+-- and otherwise one of the recording's.
+events_event : (σ : Trace) → length σ ≤ 4095 → (check_events σ).event ≤ 4095
 unfolding check_events first_fault
-events_small σ l =
-    cond_elim Small (eqb (first_fault σ) 0) (outcome 0 0) (outcome (fault σ (first_fault σ)) (first_fault σ))
-    (λ y. record { refusal_le = omega arith; event_le = omega arith })
-    (λ n. record { refusal_le = omega (arith, fault_le σ (first_fault σ)); event_le = event })
+events_event σ l =
+    cond_elim (λ (x : Outcome). x.event ≤ 4095) (eqb (first_fault σ) 0) (outcome 0 0)
+    (outcome (fault σ (first_fault σ)) (first_fault σ)) (λ y. omega arith) (λ n. event)
   where
     event : first_fault σ ≤ 4095
     event =
@@ -84,38 +66,38 @@ unfolding trace
 trace-length b = omega (arith, decode_all-length (drop 2 b), length-drop 2 b)
 
 -- The check's.
-pub check_small : (b : List ℕ) → get_or b 1 0 < 256 → Small (check b)
-check_small b h =
+check_event : (b : List ℕ) → get_or b 1 0 < 256 → (check b).event ≤ 4095
+check_event b h =
     ⊎_elim (λ (l : 2 ≤ length b). ⊎_elim
     (λ (f : format b ≡ 1). ⊎_elim
     (λ (q : length b ≡ 2 + 2 * event_count b). rw (check_events_lem b l f q)
-    (events_small (trace b) (size q)))
-    (λ d. rw (check-length b l f d) (asked_small 3 false (omega arith)))
+    (events_event (trace b) (size q)))
+    (λ d. rw (check-length b l f d) (asked_event 3 false))
     (equal? (length b) (2 + 2 * event_count b)))
-    (λ d. rw (check-format b l d) (asked_small 2 false (omega arith))) (equal? (format b) 1))
+    (λ d. rw (check-format b l d) (asked_event 2 false)) (equal? (format b) 1))
     few (at-most? 2 (length b))
   where
-    few : length b < 2 → Small (check b)
-    few l = rw (check_short b l) (asked_small 1 false (omega arith))
+    few : length b < 2 → (check b).event ≤ 4095
+    few l = rw (check_short b l) (asked_event 1 false)
 
     size : length b ≡ 2 + 2 * event_count b → length (trace b) ≤ 4095
     size q = omega (arith, count_lt b h, trace-length b)
 
 -- The listing's.
-pub list_small : (b : List ℕ) (k room : ℕ) → get_or b 1 0 < 256 → Small (list_refusal b k room)
+pub list_event : (b : List ℕ) (k room : ℕ) → get_or b 1 0 < 256 → (list_refusal b k room).event ≤ 4095
 unfolding list_refusal permits_size fits_output
-list_small b k room h =
-    then_small (check b) (permits_size k then fits_output (entries (listing b k)) room) (check_small b h)
-    (then_small (permits_size k) (fits_output (entries (listing b k)) room)
-    (asked_small 8 (eqb k 0 || (leb smallest_pattern k && leb k largest_pattern)) (omega arith))
-    (asked_small 13 (leb (length (entries (listing b k))) room) (omega arith)))
+list_event b k room h =
+    then_event (check b) (permits_size k then fits_output (entries (listing b k)) room) (check_event b h)
+    (then_event (permits_size k) (fits_output (entries (listing b k)) room)
+    (asked_event 8 (eqb k 0 || (leb smallest_pattern k && leb k largest_pattern)))
+    (asked_event 13 (leb (length (entries (listing b k))) room)))
 
 -- The verdict's.
-pub verdict_small : (b p : List ℕ) → get_or b 1 0 < 256 → Small (verdict_refusal b p)
+pub verdict_event : (b p : List ℕ) → get_or b 1 0 < 256 → (verdict_refusal b p).event ≤ 4095
 unfolding verdict_refusal lends_pattern
-verdict_small b p h =
-    then_small (check b) (lends_pattern (trace b) p) (check_small b h)
-    (asked_small 10 (is_whole p && is_pattern (trace b) (numbers p)) (omega arith))
+verdict_event b p h =
+    then_event (check b) (lends_pattern (trace b) p) (check_event b h)
+    (asked_event 10 (is_whole p && is_pattern (trace b) (numbers p)))
 
 -- ---- the numbers returned
 
@@ -125,14 +107,12 @@ pub record Carries (o : Outcome) (refusal event : ℕ) : Type 0 where
   pub refused : is_accepted o ≡ false → (refusal ≡ o.refusal) × (event ≡ o.event)
 
 module _ {o : Outcome} {refusal event : ℕ} (z : Carries o refusal event) where
-  -- They fit an entry's number,
-  pub carries_bounds : Small o → (refusal < 65536) × (event < 65536)
+  -- The event is small where the outcome's is,
+  pub carries_bounds : o.event ≤ 4095 → event < 65536
   carries_bounds s =
-      decided (is_accepted o)
-      (λ y. (omega (arith, (z.accepted y).0), omega (arith, (z.accepted y).1)))
-      (λ n. (omega (arith, s.refusal_le, (z.refused n).0), omega (arith, s.event_le, (z.refused n).1)))
+      decided (is_accepted o) (λ y. omega (arith, (z.accepted y).1)) (λ n. omega (arith, s, (z.refused n).1))
 
-  -- which is odd for a refusal,
+  -- an entry's number is odd for a refusal,
   pub carries_refused : refusal ≢ 0 → (n : ℕ) → 2 * (65536 * refusal + event) + 1 ≡ entry_number o n
   unfolding entry_number
   carries_refused d n =

@@ -1,44 +1,48 @@
 -- `hidzvoma::hidzvoma_verdict` meets its contract: the verdict's answer as one number. Assumes nothing.
-use Prim.Native.Nat.{◌+◌, ◌*◌}
+use Prim.Native.Nat.{ℕ}
+use Rattle.std.specs.Prelude.{Ok}
 use mathlib.Core.Path.{◌≡◌, sym, ap, ◌∙◌}
-use mathlib.Core.Bool.{Bool, cond}
-use Rattle.model.specs.Answers.{Verdict}
+use mathlib.Core.List.{List}
+use mathlib.Core.Bool.{cond}
+use native.Mathlib.Omega.{arith}
+use Rattle.model.specs.declared.Verdict.{Verdict as Decided}
+use Rattle.model.specs.declared.Verdict.TheVariants.{Not, Deadlock}
+use Rattle.model.specs.Answers.{Verdict, is_deadlock, verdict_of}
+use Rattle.model.specs.Calls.Verdict.{verdict}
 use Rattle.model.specs.Calls.Entries.{verdict_entry}
-use Rattle.hidzvoma.proofs.Laws.{verdict_small, carries_bounds, carries_refused}
-use Rattle.hidzvoma.proofs.Laws.{carries_accepted, verdict_carries, verdict_entry_lem}
+use Rattle.laws.proofs.Numbers.{number_positive}
+use Rattle.hidzvoma.proofs.Laws.{verdict_event, carries_bounds, carries_refused, carries_accepted}
+use Rattle.hidzvoma.proofs.Laws.{verdict_carries, verdict_entry_lem}
 use Rattle.hidzvoma.proofs.hidzvoma_verdict.Goals as goal
-use Rattle.hidzvoma.proofs.hidzvoma_verdict.Goals.{Else-decided-ne0}
-
--- A verdict that is not refused has its number.
-number : (c : goal.Else-decided-ne0) → cond c.verdict-decided.result.deadlock 2 0
-    ≡ verdict_entry c.args.recording.now
-    c.args.pattern.now
-number c =
-    let b = c.args.recording.now in
-    let p = c.args.pattern.now in
-    let q = c.verdict-decided.ensures in
-    ap (λ (v : Verdict). cond v.deadlock 2 0) q
-    ∙ carries_accepted (verdict_carries b p) (rw q at c.if-decided-ne0.false) _ ∙ verdict_entry_lem b p
 
 pub refused-requires : goal.refused-requires
 refused-requires c =
     let b = c.args.recording.now in
     let p = c.args.pattern.now in
-    rw c.verdict-decided.ensures (carries_bounds (verdict_carries b p)
-    (verdict_small b p (c.shared_slice_known-1.given 1).fits))
+    carries_bounds (rw (← c.in-Err.ensures) at (verdict_carries b p))
+    (verdict_event b p (c.type_inv.recording 1).fits)
 
-pub returns-then-decided-ne0 : goal.returns-then-decided-ne0
-returns-then-decided-ne0 c =
+-- A verdict that is not refused has its number.
+decided : (b p : List ℕ) (v : Decided) → verdict_of (Ok v) ≡ verdict b p
+    → cond (is_deadlock v) 2 0 ≡ verdict_entry b p
+decided b p v q =
+    ap (λ (x : Verdict). cond x.deadlock 2 0) q
+    ∙ carries_accepted (verdict_carries b p) (sym (ap (λ (x : Verdict). x.refusal) q)) _ ∙ verdict_entry_lem b p
+
+pub returns-in-Ok-Deadlock : goal.returns-in-Ok-Deadlock
+returns-in-Ok-Deadlock c =
+    decided c.args.recording.now c.args.pattern.now Deadlock
+    (rw c.in-Ok-Deadlock.field-0-is at c.in-Ok-Deadlock.ensures)
+
+pub returns-in-Ok-Not : goal.returns-in-Ok-Not
+returns-in-Ok-Not c =
+    decided c.args.recording.now c.args.pattern.now Not (rw c.in-Ok-Not.field-0-is at c.in-Ok-Not.ensures)
+
+pub returns-in-Err : goal.returns-in-Err
+returns-in-Err c =
     let b = c.args.recording.now in
     let p = c.args.pattern.now in
-    let q = c.verdict-decided.ensures in
-    c.refused.ensures ∙ ap (λ (v : Verdict). 2 * (65536 * v.refusal + v.event) + 1) q
-    ∙ carries_refused (verdict_carries b p) (rw q at c.if-decided-ne0.true) _ ∙ verdict_entry_lem b p
-
-pub returns-then-decided : goal.returns-then-decided
-returns-then-decided c = ap (λ (d : Bool). cond d 2 0) (sym c.if-decided.true)
-    ∙ number (goal.at.returns-then-decided c).Else-decided-ne0
-
-pub returns : goal.returns
-returns c =
-    ap (λ (d : Bool). cond d 2 0) (sym c.if-decided.false) ∙ number (goal.at.returns c).Else-decided-ne0
+    c.refused.ensures
+    ∙ carries_refused (rw (← c.in-Err.ensures) at (verdict_carries b p))
+    (λ z. omega (arith, z, number_positive c.in-Err.refusal.question)) _
+    ∙ verdict_entry_lem b p
