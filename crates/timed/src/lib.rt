@@ -16,13 +16,17 @@ ghost use Rattle.laws.specs.Sizes.{records_length, table_length};
 ghost use Rattle.frontier.specs.Visit.{Needed};
 ghost use Rattle.deadlock.specs.Judged.{Holding};
 
+use model::Verdict;
+
 // Checks a recording: its refusal.
 #[unsafe(no_mangle)]
 pub extern "C" fn timed_check(recording: &[u8]) -> u64
     ensures { result ≡ (check recording.now).refusal }
 {
-    let checked = recording::check(recording);
-    checked.refusal
+    match recording::check(recording) {
+        Ok(()) => 0,
+        Err(refusal) => refusal.question.number(),
+    }
 }
 
 // Fills the tables of records whose events are accepted, and compares their entries n: a number to 4 that
@@ -70,15 +74,13 @@ pub extern "C" fn timed_tables(recording: &[u8]) -> u64
     ensures { cond (is_accepted (check recording.now)) 0 result
         ≡ (check recording.now).refusal }
 {
-    let checked = recording::check(recording);
-    if checked.refusal != 0 {
-        return checked.refusal;
+    match recording::check(recording) {
+        Ok(()) => compare_entries(&recording[2..], recording::event_count(recording)),
+        Err(refusal) => refusal.question.number(),
     }
-    let n = recording::event_count(recording);
-    compare_entries(&recording[2..], n)
 }
 
-// Decides the pattern again and again with tables that are filled: what was decided last.
+// Decides the pattern again and again with tables that are filled: what was decided last, if it is one.
 fn decide_often(
     records: &[u8],
     holding: &[u64],
@@ -87,14 +89,13 @@ fn decide_often(
     matches: &[u16],
     pattern: &[u8],
     rounds: u64,
-) -> u64
+) -> Option<Verdict>
     requires { (length records.now ≤ records_length) × ((check_events (decode_all records.now)).refusal ≡ 0)
         × Holding (decode_all records.now) holding.now
         × Needed (decode_all records.now) predecessors.now writers.now matches.now }
 {
-    let mut decided = 0;
-    let mut i = 0;
-    while i < rounds {
+    let mut decided = None;
+    for _ in 0..rounds {
         let mut front = [0u16; 16];
         decided = deadlock::decide(
             records,
@@ -105,13 +106,12 @@ fn decide_often(
             pattern,
             &mut front,
         );
-        i = i + 1;
     }
     decided
 }
 
 // Fills the tables of records whose events are accepted, and decides the pattern again and again.
-fn decide_with_tables(records: &[u8], pattern: &[u8], rounds: u64) -> u64
+fn decide_with_tables(records: &[u8], pattern: &[u8], rounds: u64) -> Option<Verdict>
     requires { (length records.now ≤ records_length)
         × ((check_events (decode_all records.now)).refusal ≡ 0) }
 {
@@ -147,11 +147,15 @@ fn decide_with_tables(records: &[u8], pattern: &[u8], rounds: u64) -> u64
 // pattern or no accepted recording, 1 for "not", 2 for deadlock.
 #[unsafe(no_mangle)]
 pub extern "C" fn timed_verdicts(recording: &[u8], pattern: &[u8], rounds: u64) -> u64 {
-    let checked = recording::check(recording);
-    if checked.refusal != 0 {
-        return 0;
+    let decided = match recording::check(recording) {
+        Ok(()) => decide_with_tables(&recording[2..], pattern, rounds),
+        Err(_) => None,
+    };
+    match decided {
+        None => 0,
+        Some(Verdict::Not) => 1,
+        Some(Verdict::Deadlock) => 2,
     }
-    decide_with_tables(&recording[2..], pattern, rounds)
 }
 
 // The held locks of an event.
@@ -159,8 +163,10 @@ pub extern "C" fn timed_verdicts(recording: &[u8], pattern: &[u8], rounds: u64) 
 pub extern "C" fn timed_relations(recording: &[u8], event: u64) -> u64
     ensures { result ≡ (relations recording.now event).held }
 {
-    let found = relations::relations(recording, event);
-    found.held
+    match relations::relations(recording, event) {
+        Ok(related) => related.held,
+        Err(_) => 0,
+    }
 }
 
 // A lock's load.
@@ -168,8 +174,7 @@ pub extern "C" fn timed_relations(recording: &[u8], event: u64) -> u64
 pub extern "C" fn timed_load(recording: &[u8], lock: u64) -> u64
     ensures { result ≡ (load recording.now lock).percent }
 {
-    let loaded = load::load(recording, lock);
-    loaded.percent
+    load::load(recording, lock).unwrap_or(0)
 }
 
 // How many events a closure adds.
@@ -178,8 +183,7 @@ pub extern "C" fn timed_close(recording: &[u8], set: &mut [u8]) -> u64
     ensures added { result ≡ (close recording.now set.old).added }
     ensures closed { set.new ≡ close_out recording.now set.old }
 {
-    let closed = closure::close(recording, set);
-    closed.added
+    closure::close(recording, set).unwrap_or(0)
 }
 
 // How many bytes of schedule are written.
@@ -190,8 +194,10 @@ pub extern "C" fn timed_witness(recording: &[u8], pattern: &[u8], out: &mut [u8]
     ensures output { out.new ≡ witness_out recording.now pattern.now
         out.old }
 {
-    let written = deadlock::witness(recording, pattern, out);
-    written.bytes
+    match deadlock::witness(recording, pattern, out) {
+        Ok(Some(bytes)) => bytes,
+        _ => 0,
+    }
 }
 
 // 1 for a valid schedule, otherwise 0.
@@ -200,9 +206,8 @@ pub extern "C" fn timed_schedule(recording: &[u8], pattern: &[u8], schedule: &[u
     ensures { result ≡ cond (check_schedule recording.now pattern.now
         schedule.now).valid 1 0 }
 {
-    let checked = schedule::check_schedule(recording, pattern, schedule);
-    if checked.valid {
-        return 1;
+    match schedule::check_schedule(recording, pattern, schedule) {
+        Ok(true) => 1,
+        _ => 0,
     }
-    0
 }
