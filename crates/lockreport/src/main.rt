@@ -10,7 +10,7 @@ ghost use Rattle.model.specs.Answers.{listed_of};
 ghost use Rattle.model.specs.Calls.List.{list, list_out};
 ghost use Rattle.lockreport.specs.Text.{Entries};
 
-use model::{Entries, Refusal};
+use model::Refusal;
 use std::alloc::{AllocError, Global};
 use std::io::{Read, Write};
 
@@ -71,7 +71,7 @@ fn put_refusal(text: &mut String, refusal: Refusal) -> Result<(), AllocError>
 }
 
 // The listing that the lines show: pairs alone, which readers of lockreport like.
-fn list_pairs(recording: &[u8], out: &mut [u8]) -> Result<Entries, Refusal>
+fn list_pairs(recording: &[u8], out: &mut [u8]) -> Result<model::Entries, Refusal>
     ensures answer { listed_of result ≡ list recording.now 2 (length out.old) }
     ensures output { out.new ≡ list_out recording.now 2 out.old }
 {
