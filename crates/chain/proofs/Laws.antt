@@ -93,7 +93,8 @@ module _ (σ : Trace) (k : ℕ) (p : List ℕ) (first e : ℕ) where
 
     module _ (h : all (λ f. not (leb f (get_or grown (task σ f) 0))) p ≡ true) where
       -- It has the event itself.
-      pub attempted_itself : leb e (get_or grown (task σ e) 0) ≡ true → Attempted σ k p first e Failure grown newest
+      pub attempted_itself : leb e (get_or grown (task σ e) 0) ≡ true
+          → Attempted σ k p first e Failure grown newest
       attempted_itself y = record {
         deadlock = λ q. cc;
         grows = λ d. z;
@@ -102,8 +103,8 @@ module _ (σ : Trace) (k : ℕ) (p : List ℕ) (first e : ℕ) where
       }
 
       -- It has none of the events.
-      pub attempted_deadlock : leb e (get_or grown (task σ e) 0) ≡ false → Attempted σ k p first e Success grown
-          newest
+      pub attempted_deadlock : leb e (get_or grown (task σ e) 0) ≡ false
+          → Attempted σ k p first e Success grown newest
       attempted_deadlock n = record {
         deadlock = λ q. rw (verdict, h, n);
         grows = λ d. z;

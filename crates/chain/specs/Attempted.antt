@@ -24,8 +24,9 @@ pub record Reusable (σ : Trace) (p : List ℕ) (of : Option ℕ) (e : ℕ) (fro
   pub again : of ≡ Some (task σ e)
       → (d : ℕ) × (1 ≤ d) × (d < e) × (task σ d ≡ task σ e) × Before σ (p ++ d ∷ []) grown newest
 
--- Event e after the events p: with success they make a deadlock so far; otherwise e adds nothing, and where its
--- task fails no later event of the task does. The frontier is that of their predecessors, unless e is skipped.
+-- Event e after the events p: with success they make a deadlock so far; otherwise e adds nothing, and where
+-- its task fails no later event of the task does. The frontier is that of their predecessors, unless e is
+-- skipped.
 pub record Attempted (σ : Trace) (k : ℕ) (p : List ℕ) (first e : ℕ) (r : Trial) (grown newest : List ℕ)
     : Type 0 where
   pub deadlock : r ≡ Success → is_deadlock σ (p ++ e ∷ []) ≡ true
@@ -34,7 +35,8 @@ pub record Attempted (σ : Trace) (k : ℕ) (p : List ℕ) (first e : ℕ) (r : 
   pub later : r ≡ TaskFailure → (c : Chain) → Along σ p first c → (f : ℕ) → e < f → f ≤ length σ
       → task σ f ≡ task σ e → branch σ k c f ≡ []
 
--- The tasks whose later events are passed over, after an attempt at event e: that of e too, where its task fails.
+-- The tasks whose later events are passed over, after an attempt at event e: that of e too, where its task
+-- fails.
 abbrev pub excluded_after : Trace → ℕ → Trial → ℕ → ℕ
 excluded_after σ excluded TaskFailure e = bit_or excluded (2 ^ (task σ e))
 excluded_after σ excluded _ e = excluded

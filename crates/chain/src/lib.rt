@@ -15,8 +15,8 @@ ghost use Rattle.laws.specs.Returning.{Returning};
 ghost use Rattle.frontier.specs.Visit.{Needed};
 ghost use Rattle.chain.specs.Attempted.{Reusable, Attempted, excluded_after, reused_after};
 
-// What is found of an acquire after the events of a path: with them it is a deadlock so far; it leads nowhere; nor
-// do the later events of its task; or it leads nowhere, and its closure was not asked for.
+// What is found of an acquire after the events of a path: with them it is a deadlock so far; it leads nowhere;
+// nor do the later events of its task; or it leads nowhere, and its closure was not asked for.
 #[derive(Clone, Copy, Debug, PartialEq, Eq, Hash)]
 pub enum Trial {
     Success,
@@ -88,8 +88,8 @@ pub fn grow(
     );
 }
 
-// Attempts the acquire e after the events of the path, with at most k more after it. The frontier becomes that of
-// the closure of their predecessors, unless e is skipped: then it is as before.
+// Attempts the acquire e after the events of the path, with at most k more after it. The frontier becomes that
+// of the closure of their predecessors, unless e is skipped: then it is as before.
 pub fn attempt(
     records: &[u8],
     predecessors: &[u16],

@@ -2,24 +2,16 @@
 use Prim.Native.Nat.{ℕ, ◌+◌, ◌-◌, ◌*◌, ◌/◌, ◌≤◌, ◌<◌}
 use mathlib.Core.Path.{◌≡◌, refl, sym, ◌∙◌}
 use mathlib.Core.Logic.{◌≢◌, ⊎_elim}
-use mathlib.Core.Bool.{Bool, true, false, cond, not, ◌&&◌, ◌||◌}
+use mathlib.Core.Bool.{Bool, true, false, cond, ◌&&◌, ◌||◌}
 use mathlib.Core.List.{List}
 use native.Mathlib.Omega.{arith}
 use lib.Dec.{eqb, leb, ltb}
 use lib.ListN.{length, get_or, drop, length-drop}
 use borrow.Author.Tests.{eqb-false}
-use Rattle.model.specs.declared.Question.{Question}
-use Rattle.model.specs.declared.Question.TheVariants.{TwoBytes, Format, Length, Object, LockFree, LockHeld}
-use Rattle.model.specs.declared.Question.TheVariants.{Written, LargestSize, EventNumber, Pattern, SetLength}
-use Rattle.model.specs.declared.Question.TheVariants.{SpareBits, OutputLength, LockNumber, TaskNew, TaskOpen}
-use Rattle.model.specs.Refused.{number}
 use Rattle.model.specs.Answers.{Outcome}
 use Rattle.model.specs.Recording.{format, event_count, trace}
-use Rattle.model.specs.WellFormed.{is_free, is_new, is_over, joins_own, fault, first_fault}
-use Rattle.model.specs.Trace.{Trace, sync_objects, task, object, is_read, has_acquire_op, has_release_op}
-use Rattle.model.specs.Trace.{enters, leaves}
-use Rattle.model.specs.Tasks.{is_start}
-use Rattle.model.specs.Relations.{writer, holds}
+use Rattle.model.specs.WellFormed.{fault, first_fault}
+use Rattle.model.specs.Trace.{Trace}
 use Rattle.model.specs.Bytes.{numbers, is_whole}
 use Rattle.model.specs.Pattern.{smallest_pattern, largest_pattern, is_pattern}
 use Rattle.model.specs.Calls.Questions.{outcome, is_accepted, ◌then◌, asked, permits_size, fits_output}

@@ -25,8 +25,8 @@ each_passed g a b m h k n =
 
 module _ {ℓ} {A : Type ℓ} (p : ℕ → Bool) (g : ℕ → List A) (n a b : ℕ) (h : a ≤ b)
     (none : (f : ℕ) → b < f → f ≤ n → p f ≡ false → g f ≡ []) where
-  -- Where those that do not pass yield nothing, what the first number after b that does yields is all that comes
-  -- to what the numbers to b yield;
+  -- Where those that do not pass yield nothing, what the first number after b that does yields is all that
+  -- comes to what the numbers to b yield;
   pub each_first : (x : ℕ) → First p n b x → x ≢ 0
       → each g (from (suc a) (x - a)) ≡ each g (from (suc a) (b - a)) ++ g x
   each_first x z d =

@@ -1,8 +1,7 @@
 -- What the call answers: of the size argument, and of what was found. Assumes nothing.
 use Prim.Native.Nat.{ℕ, ◌≤◌, ◌<◌}
-use mathlib.Core.Path.{◌≡◌, refl, sym, ap, subst, ◌∙◌}
+use mathlib.Core.Path.{◌≡◌, refl, ap, ◌∙◌}
 use mathlib.Core.Logic.{◌⊎◌, inl, inr, ⊎_elim, ◌≢◌}
-use mathlib.Core.Bool.{true, false, cond}
 use mathlib.Core.List.{List}
 use native.Mathlib.Omega.{arith}
 use Rattle.std.specs.Prelude.{Result, Ok, Err, IfOk}
@@ -13,7 +12,7 @@ use Rattle.model.specs.declared.Question.{Question}
 use Rattle.model.specs.declared.Question.TheVariants.{LargestSize}
 use Rattle.model.specs.Recording.{trace}
 use Rattle.model.specs.Listing.{deadlocks}
-use Rattle.model.specs.Calls.Questions.{outcome, is_accepted, permits_size, fits_output}
+use Rattle.model.specs.Calls.Questions.{outcome, permits_size, fits_output}
 use Rattle.model.specs.Calls.Check.{check}
 use Rattle.model.specs.Calls.List.{largest_size, entries, listing, list_refusal, list, list_out}
 use Rattle.laws.specs.Answered.{refused_listing}
@@ -32,21 +31,20 @@ pub size_default : (k : ℕ) → k ≡ 0 → Ok 16 ≡ asked_size k
 unfolding permits_size largest_size
 size_default k q = rw q refl
 
-module _ (k : ℕ) (d : k ≢ 0) where
-  -- 1 is refused,
-  pub size_low : k < 2 → Err LargestSize ≡ asked_size k
-  unfolding permits_size
-  size_low h = rw (ne_eqb k 0 d, lt-leb 2 k h)
+-- 1 is refused,
+pub size_low : (k : ℕ) → k ≢ 0 → k < 2 → Err LargestSize ≡ asked_size k
+unfolding permits_size
+size_low k d h = rw (ne_eqb k 0 d, lt-leb 2 k h)
 
-  -- more than 16 too,
-  pub size_high : 16 < k → Err LargestSize ≡ asked_size k
-  unfolding permits_size
-  size_high h = rw (ne_eqb k 0 d, le-leb 2 k (omega arith), lt-leb k 16 h)
+-- more than 16 too,
+pub size_high : (k : ℕ) → 16 < k → Err LargestSize ≡ asked_size k
+unfolding permits_size
+size_high k h = rw (ne_eqb k 0 (λ q. omega arith), le-leb 2 k (omega arith), lt-leb k 16 h)
 
-  -- and the others stand for themselves.
-  pub size_itself : 2 ≤ k → k ≤ 16 → Ok k ≡ asked_size k
-  unfolding permits_size largest_size
-  size_itself h l = rw (ne_eqb k 0 d, le-leb 2 k h, le-leb k 16 l)
+-- and the others stand for themselves.
+pub size_itself : (k : ℕ) → 2 ≤ k → k ≤ 16 → Ok k ≡ asked_size k
+unfolding permits_size largest_size
+size_itself k h l = rw (ne_eqb k 0 (λ q. omega arith), le-leb 2 k h, le-leb k 16 l)
 
 -- Question 8: a size is refused, or is 2 to 16 after 0 has been replaced.
 pub size_question : (k : ℕ) → (permits_size k ≡ outcome 8 0)
@@ -89,7 +87,8 @@ size_permitted k {m} e =
 
 module _ (ps : List (List ℕ)) (out buffer₀ buffer : List ℕ) where
   -- Entries that exceed the room are not written.
-  pub delivered-none : (x : Full) → Taken (length out) ps buffer₀ buffer (Err x) → Delivered ps out out (Err x)
+  pub delivered-none : (x : Full) → Taken (length out) ps buffer₀ buffer (Err x)
+      → Delivered ps out out (Err x)
   delivered-none x z = record { refused = (z.over, refl); counted = tt; written = tt }
 
   module _ (f : Found) (z : Taken (length out) ps buffer₀ buffer (Ok f)) (fits : f.bytes ≤ length out) where

@@ -1,8 +1,8 @@
 -- The chains of one event with which the search begins, and the walk over them. Assumes nothing.
 use Prim.Native.Nat.{ℕ, suc, ◌-◌, ◌^◌, ◌≤◌}
-use mathlib.Core.Path.{◌≡◌, refl, ap, ◌∙◌}
+use mathlib.Core.Path.{◌≡◌, refl, ◌∙◌}
 use mathlib.Core.Logic.{◌≢◌}
-use mathlib.Core.Bool.{true, false}
+use mathlib.Core.Bool.{false}
 use mathlib.Core.List.{List, [], ◌∷◌, ◌++◌}
 use native.Mathlib.Omega.{arith}
 use native.Mathlib.Nat.{sub-zero}
@@ -26,7 +26,7 @@ use Rattle.entries.specs.declared.Full.{Full}
 use Rattle.entries.specs.Taken.{Taken, Adds, Roomy}
 use Rattle.entries.proofs.Laws.{taken_start, taken_over}
 use Rattle.pruning.specs.Linked.{is_nested, Link}
-use Rattle.pruning.proofs.Links.{nested_acquire, acquire_free}
+use Rattle.pruning.proofs.Links.{acquire_free}
 use Rattle.laws.proofs.Lists.{from_split}
 use Rattle.laws.proofs.Filters.{each_append}
 use Rattle.laws.proofs.Firsts.{each_first, each_last}
@@ -105,7 +105,8 @@ searching-start {σ} {k} {room} {out} = record {
   taken = taken_start room out;
 }
 
-module _ {σ : Trace} {k room at : ℕ} {out₀ out : List ℕ} {f : Found} (z : Searching σ k room at out₀ out f) where
+module _ {σ : Trace} {k room at : ℕ} {out₀ out : List ℕ} {f : Found}
+    (z : Searching σ k room at out₀ out f) where
   -- Where no event is left that is nested, all is taken.
   pub searching_end : Link σ at 0 → suc k ≤ largest_pattern → Taken room (deadlocks σ (suc k)) out₀ out (Ok f)
   searching_end y l =

@@ -1,14 +1,13 @@
 -- The scan of the events that may follow a chain: what was taken before an event, and that the events passed
 -- over add nothing. Assumes nothing.
-use Prim.Native.Nat.{ℕ, suc, ◌-◌, ◌^◌, ◌≤◌, ◌<◌}
+use Prim.Native.Nat.{ℕ, suc, ◌-◌, ◌≤◌, ◌<◌}
 use Rattle.std.specs.Prelude.{Result, Ok, Err}
 use mathlib.Core.Path.{◌≡◌, refl, sym, ◌∙◌}
 use mathlib.Core.Logic.{◌≢◌, ⊎_elim}
-use mathlib.Core.Bool.{Bool, true, false, cond, or-false}
+use mathlib.Core.Bool.{Bool, true, false, or-false}
 use mathlib.Core.List.{List, [], ◌++◌}
 use native.Mathlib.Omega.{arith}
-use lib.Dec.{T, eqb}
-use lib.Bits.{bit_or}
+use lib.Dec.{T}
 use lib.ListN.{length}
 use borrow.Author.Tests.{ne_eqb}
 use Rattle.model.specs.Lists.{from, each, has_bit}
@@ -16,7 +15,7 @@ use Rattle.model.specs.Trace.{Trace, task, is_acquire}
 use Rattle.laws.specs.Chain.{Chain, signature, fits, chain_of}
 use Rattle.laws.specs.Walk.{First, extensions, branch}
 use Rattle.laws.specs.Returning.{Covers}
-use Rattle.laws.proofs.Tests.{and_iff, not_mono, decided, or_l, is_true, equal?}
+use Rattle.laws.proofs.Tests.{and_iff, not_mono, or_l, is_true, equal?}
 use Rattle.laws.proofs.Bits.{has_bit-set}
 use Rattle.laws.proofs.Lists.{from_split}
 use Rattle.laws.proofs.Filters.{each_append}
@@ -108,7 +107,8 @@ module _ {σ : Trace} {k : ℕ} {c : Chain} {room : ℕ} where
               let (one, low, high) = scanning_event in
               extensions-suc σ k c
               ∙ rw (
-                from_split (suc c.first) (e - c.first) (length σ - c.first) (suc e) (omega arith) (omega arith),
+                from_split (suc c.first) (e - c.first) (length σ - c.first) (suc e) (omega arith)
+                    (omega arith),
                 each_append,
               )
 
@@ -132,14 +132,14 @@ module _ {σ : Trace} {k : ℕ} {c : Chain} {room : ℕ} where
 
           wider : Covers excluded excluded'
           wider l s = rw q (elim met as (λ m. T (has_bit (excluded_after σ excluded m e) l)) [
-            TaskFailure ↦ rw (has_bit-set excluded (task σ e) l) (or_l (has_bit excluded l) _ s)
+            | TaskFailure ↦ rw (has_bit-set excluded (task σ e) l) (or_l (has_bit excluded l) _ s)
             | Success ↦ s
             | Failure ↦ s
             | Skipped ↦ s
           ])
 
-          rest : (m : Trial) → Attempted σ k p c.first e m grown newest → excluded' ≡ excluded_after σ excluded m e
-              → (g : ℕ) → e < g → g ≤ length σ → passes σ c excluded' g ≡ false → branch σ k c g ≡ []
+          rest : (m : Trial) → Attempted σ k p c.first e m grown newest
+              → excluded' ≡ excluded_after σ excluded m e → (g : ℕ) → e < g → g ≤ length σ → passes σ c excluded' g ≡ false → branch σ k c g ≡ []
           rest Success t q g h i m = more g h i (rw q at m)
           rest Failure t q g h i m = more g h i (rw q at m)
           rest Skipped t q g h i m = more g h i (rw q at m)

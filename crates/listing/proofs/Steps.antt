@@ -1,15 +1,15 @@
 -- One turn of the scan: the chain is still open, and what is asked where an event is attempted and followed.
 -- Assumes nothing.
-use Prim.Native.Nat.{ℕ, suc, ◌-◌, ◌^◌, ◌≤◌, ◌<◌}
+use Prim.Native.Nat.{ℕ, suc, ◌-◌, ◌≤◌, ◌<◌}
 use mathlib.Core.Path.{◌≡◌, refl, sym, ap, subst, ◌∙◌}
-use mathlib.Core.Logic.{⊎_elim, ◌≢◌}
+use mathlib.Core.Logic.{◌≢◌}
 use mathlib.Core.List.{List, [], ◌∷◌, ◌++◌}
 use native.Mathlib.Omega.{arith}
 use lib.Dec.{T}
 use Rattle.std.specs.Prelude.{Option, Some, None, Ok, Err}
 use lib.ListN.{length, get_or, take}
 use Rattle.model.specs.Lists.{all}
-use Rattle.model.specs.Trace.{Trace, tasks, task, is_event}
+use Rattle.model.specs.Trace.{Trace, task, is_event}
 use Rattle.model.specs.Pattern.{largest_pattern}
 use Rattle.laws.specs.Chain.{Chain, signature, fits}
 use Rattle.laws.specs.Frontier.{Before}
@@ -97,8 +97,8 @@ step_end {σ} {left} h z y = let s : left ≡ suc (left - 1) = omega arith in rw
 
 -- ---- the frontier that is kept
 
--- Where a task's frontier is kept, it is that of the events p and an event of this task, at the latest the one at
--- a place.
+-- Where a task's frontier is kept, it is that of the events p and an event of this task, at the latest the one
+-- at a place.
 pub record Kept (σ : Trace) (p : List ℕ) (of : Option ℕ) (at : ℕ) (grown newest : List ℕ) : Type 0 where
   pub again : (t : ℕ) → of ≡ Some t
       → (d : ℕ) × (1 ≤ d) × (d ≤ at) × (task σ d ≡ t) × Before σ (p ++ d ∷ []) grown newest
@@ -121,7 +121,8 @@ pub kept_next : {σ : Trace} {k : ℕ} {p q : List ℕ} {first : ℕ} {of : Opti
     {grown newest grown' newest' : List ℕ} → q ≡ p → Kept σ p of at grown newest → at < e → 1 ≤ e
     → Attempted σ k q first e met grown' newest' → (met ≡ Skipped → (grown' ≡ grown) × (newest' ≡ newest))
     → {of' : Option ℕ} → of' ≡ reused_after σ of met e → Kept σ p of' e grown' newest'
-kept_next {σ} {k} {p} {q} {first} {of} {at} {e} {met} {grown} {newest} {grown'} {newest'} s z l h a same {of'} r =
+kept_next {σ} {k} {p} {q} {first} {of} {at} {e} {met} {grown} {newest} {grown'} {newest'} s z l h a same {of'}
+    r =
     cases met a same r
   where
     new : {m : Trial} → Attempted σ k q first e m grown' newest' → m ≢ Skipped → of' ≡ Some (task σ e)

@@ -123,14 +123,7 @@ fn extend(
     let mut taken = found;
     let mut at = path[0] as usize;
     while let Some(e) = pruning::following(
-        records,
-        holding,
-        next,
-        blocks,
-        last,
-        excluded,
-        guards,
-        at,
+        records, holding, next, blocks, last, excluded, guards, at,
     ) {
         let met = chain::attempt(
             records,
@@ -282,7 +275,7 @@ fn search_first(
         holding,
         next,
         a,
-        recording::task(records, a),
+        Some(recording::task(records, a)),
         holding[a],
         &mut beside,
     );
@@ -329,7 +322,7 @@ pub fn search_all(
         out.old out.new result }
 {
     let mut lead = [0u64; 64];
-    pruning::note_leads(records, holding, next, 0, 16, 0, &mut lead);
+    pruning::note_leads(records, holding, next, 0, None, 0, &mut lead);
     let mut path = [0u16; 16];
     let mut found = Found {
         patterns: 0,

@@ -3,7 +3,7 @@
 use Rattle.std.specs.Prelude.{ℕ, ◌/◌, ◌≤◌, ◌≡◌, ◌≢◌, Bool, not, ◌&&◌, cond, List, T, eqb, length, get_or}
 use Rattle.std.specs.Prelude.{Option, Some, None}
 use Rattle.model.specs.Lists.{has_bit}
-use Rattle.model.specs.Trace.{Trace, is_acquire}
+use Rattle.model.specs.Trace.{Trace, tasks, is_acquire}
 use Rattle.model.specs.Relations.{held}
 use Rattle.laws.specs.Sizes.{table_length}
 use Rattle.laws.specs.Walk.{First}
@@ -35,8 +35,13 @@ pub record Marked (σ : Trace) (blocks : List ℕ) : Type 0 where
 abbrev pub is_near : Trace → List ℕ → ℕ → ℕ → Bool
 is_near σ blocks l e = is_nested σ e && has_bit (get_or blocks (e / 64) 0) l
 
--- What is found is the first number after e, and at most n, that passes the test, or none where no such number
--- does.
+-- What is found is the first number after e, and at most n, that passes the test, or none where no such
+-- number does.
 abbrev pub Earliest : (ℕ → Bool) → ℕ → ℕ → Option ℕ → Type 0
 Earliest p n e None = First p n e 0
 Earliest p n e (Some x) = (x ≢ 0) × First p n e x
+
+-- A task, or where it is none a number that no task has.
+abbrev pub number_of : Option ℕ → ℕ
+number_of None = tasks
+number_of (Some t) = t

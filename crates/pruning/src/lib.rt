@@ -14,7 +14,7 @@ ghost use Rattle.laws.specs.Sizes.{records_length, table_length};
 ghost use Rattle.laws.specs.Chain.{signature, fits, chain_of};
 ghost use Rattle.laws.specs.Returning.{Covers, Led, Leading, Spread, Returning};
 ghost use Rattle.deadlock.specs.Judged.{Holding};
-ghost use Rattle.pruning.specs.Linked.{is_nested, event_of, Linked, Marked, is_near, Earliest};
+ghost use Rattle.pruning.specs.Linked.{is_nested, event_of, number_of, Linked, Marked, is_near, Earliest};
 
 // Event e where it is a nested acquire, and otherwise `later`.
 fn nested_or(records: &[u8], holding: &[u64], e: usize, later: u16) -> u16
@@ -71,8 +71,8 @@ pub fn mark_blocks(records: &[u8], holding: &[u64], next: &[u16], blocks: &mut [
     }
 }
 
-// The first nested acquire after e in a block where some acquire holds lock l, if any: other blocks are passed
-// over.
+// The first nested acquire after e in a block where some acquire holds lock l, if any: other blocks are
+// passed over.
 fn hop(records: &[u8], next: &[u16], blocks: &[u64], l: u64, e: usize) -> Option<usize>
     requires { (l < locks) × (2 * e ≤ length records.now) × (length records.now ≤ records_length)
         × Linked (decode_all records.now) next.now × (length blocks.now ≡ 64) }
@@ -127,7 +127,7 @@ fn note_lead(
     records: &[u8],
     holding: &[u64],
     a: usize,
-    t: u8,
+    t: Option<u8>,
     guards: u64,
     lead: &mut [u64],
     e: usize,
@@ -135,10 +135,10 @@ fn note_lead(
     requires { (1 ≤ e) × (2 * e ≤ length records.now) × (length records.now ≤ records_length)
         × ((check_events (decode_all records.now)).refusal ≡ 0)
         × Holding (decode_all records.now) holding.now × T (is_acquire (decode_all records.now) e)
-        × Led (decode_all records.now) a e t guards lead.old }
-    ensures { Led (decode_all records.now) a (e + 1) t guards lead.new }
+        × Led (decode_all records.now) a e (number_of t) guards lead.old }
+    ensures { Led (decode_all records.now) a (e + 1) (number_of t) guards lead.new }
 {
-    if recording::task(records, e) == t {
+    if t == Some(recording::task(records, e)) {
         return;
     }
     let held = holding[e];
@@ -149,14 +149,14 @@ fn note_lead(
     lead[l] |= held;
 }
 
-// For each lock, the locks that are held at its acquires after event a, by other tasks than t and with none
-// of the guards.
+// For each lock, the locks that are held at its acquires after event a, by other tasks than t, if any, and
+// with none of the guards.
 pub fn note_leads(
     records: &[u8],
     holding: &[u64],
     next: &[u16],
     a: usize,
-    t: u8,
+    t: Option<u8>,
     guards: u64,
     lead: &mut [u64],
 )
@@ -164,7 +164,7 @@ pub fn note_leads(
         × ((check_events (decode_all records.now)).refusal ≡ 0)
         × Holding (decode_all records.now) holding.now × Linked (decode_all records.now) next.now
         × (length lead.old ≡ locks) }
-    ensures { Leading (decode_all records.now) a t guards lead.new }
+    ensures { Leading (decode_all records.now) a (number_of t) guards lead.new }
 {
     let mut at = a;
     while let Some(e) = link(next, at) {

@@ -8,7 +8,8 @@ use Rattle.laws.proofs.Passing.{listed-event}
 use Rattle.model.specs.Recording.{decode_all}
 use Rattle.laws.specs.Frontier.{Before}
 use Rattle.laws.proofs.Trace.{record-event}
-use Rattle.chain.proofs.Laws.{front_given, attempted_nowhere, attempted_met, attempted_itself, attempted_deadlock}
+use Rattle.chain.proofs.Laws.{front_given, attempted_nowhere, attempted_met, attempted_itself}
+use Rattle.chain.proofs.Laws.{attempted_deadlock}
 use Rattle.chain.proofs.attempt.Goals as goal
 use Rattle.chain.proofs.attempt.Goals.{After-grow}
 
@@ -35,7 +36,8 @@ returns-then-not-avoids c = (
         c.requires.9,
       ))
       (grown (goal.at.returns-then-not-avoids c).After-grow)
-      (sym (c.avoids.ensures _ (front_given c.args.path.now c.args.len c.requires.4 _ (λ i e h k. search rules))) ∙ c.if-not-avoids.true),
+      (sym (c.avoids.ensures _ (front_given c.args.path.now c.args.len c.requires.4 _ (λ i e h k.
+      search rules))) ∙ c.if-not-avoids.true),
   (λ q. cc),
 )
 
@@ -57,7 +59,8 @@ returns-then-contains c = (
         c.requires.9,
       ))
       (grown (goal.at.returns-then-contains c).After-grow)
-      (sym (c.avoids.ensures _ (front_given c.args.path.now c.args.len c.requires.4 _ (λ i e h k. search rules))) ∙ c.if-not-avoids.false)
+      (sym (c.avoids.ensures _ (front_given c.args.path.now c.args.len c.requires.4 _ (λ i e h k.
+      search rules))) ∙ c.if-not-avoids.false)
       (sym c.contains.ensures ∙ c.if-contains.true),
   (λ q. cc),
 )
@@ -70,7 +73,8 @@ returns c = (
         c.requires.9,
       ))
       (grown (goal.at.returns c).After-grow)
-      (sym (c.avoids.ensures _ (front_given c.args.path.now c.args.len c.requires.4 _ (λ i e h k. search rules))) ∙ c.if-not-avoids.false)
+      (sym (c.avoids.ensures _ (front_given c.args.path.now c.args.len c.requires.4 _ (λ i e h k.
+      search rules))) ∙ c.if-not-avoids.false)
       (sym c.contains.ensures ∙ c.if-contains.false),
   (λ q. cc),
 )

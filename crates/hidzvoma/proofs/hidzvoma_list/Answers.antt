@@ -23,7 +23,8 @@ returns-in-Ok-clause-number c =
     let room = length c.args.out.now in
     let q = c.in-Ok.ensures.answer in
     ap (λ (l : Listed). l.bytes) q
-    ∙ carries_accepted (list_carries b k room) (sym (ap (λ (l : Listed). l.refusal) q)) _ ∙ list_entry_lem b k room
+    ∙ carries_accepted (list_carries b k room) (sym (ap (λ (l : Listed). l.refusal) q)) _
+    ∙ list_entry_lem b k room
 
 pub returns-in-Err-clause-number : goal.returns-in-Err-clause-number
 returns-in-Err-clause-number c =

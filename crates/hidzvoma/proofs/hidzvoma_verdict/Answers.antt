@@ -27,7 +27,8 @@ decided : (b p : List ℕ) (v : Decided) → verdict_of (Ok v) ≡ verdict b p
     → cond (is_deadlock v) 2 0 ≡ verdict_entry b p
 decided b p v q =
     ap (λ (x : Verdict). cond x.deadlock 2 0) q
-    ∙ carries_accepted (verdict_carries b p) (sym (ap (λ (x : Verdict). x.refusal) q)) _ ∙ verdict_entry_lem b p
+    ∙ carries_accepted (verdict_carries b p) (sym (ap (λ (x : Verdict). x.refusal) q)) _
+    ∙ verdict_entry_lem b p
 
 pub returns-in-Ok-Deadlock : goal.returns-in-Ok-Deadlock
 returns-in-Ok-Deadlock c =

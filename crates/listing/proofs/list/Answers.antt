@@ -1,18 +1,14 @@
 -- `listing::list` meets its contract: the recording's questions, then 8, then what is delivered.
 -- Assumes nothing.
 use Prim.Native.Nat.{◌≤◌}
-use Rattle.std.specs.Prelude.{Ok, Err}
-use mathlib.Core.Path.{◌≡◌, sym, ap, ◌∙◌}
+use mathlib.Core.Path.{◌≡◌, sym}
 use borrow.Author.Rules.{rules}
 use Rattle.model.specs.Refused.{refusal}
-use Rattle.model.specs.Recording.{trace}
-use Rattle.model.specs.Listing.{deadlocks}
 use Rattle.model.specs.Calls.Questions.{outcome, permits_size}
 use Rattle.model.specs.Calls.Check.{check}
 use Rattle.model.specs.Calls.List.{largest_size}
 use Rattle.laws.proofs.Results.{passed_on, is_refused, is_passed}
 use Rattle.laws.proofs.Questions.{check_bytes, part-trace, part_small, part_accepted}
-use Rattle.listing.specs.Delivered.{Delivered}
 use Rattle.listing.proofs.Answers.{size_refused, size_permitted, list_unchecked, list_size, list_short}
 use Rattle.listing.proofs.Answers.{list_written}
 use Rattle.listing.proofs.list.Goals as goal
@@ -30,7 +26,8 @@ permitted c = size_permitted c.args.largest c.in_ok-size.ensures
 pub returns-in_err-check : goal.returns-in_err-check
 returns-in_err-check c =
     let q = c.in_err-check.ensures in
-    let (x, y) = list_unchecked c.args.recording.now c.args.largest c.args.out.now (is_refused _ _ q) in record {
+    let (x, y) = list_unchecked c.args.recording.now c.args.largest c.args.out.now (is_refused _ _ q) in
+    record {
       answer = rw (passed_on c.from_residual.result _ c.from_residual.ensures.1) (sym (rw (← q) at x));
       output = sym y;
     }

@@ -7,12 +7,10 @@ pub returns-in-0 : goal.returns-in-0
 returns-in-0 c = size_default c.args.largest c.in-0.is
 
 pub returns-in-2-to-16 : goal.returns-in-2-to-16
-returns-in-2-to-16 c = size_itself c.args.largest (λ q. omega (arith, c.in-2-to-16)) (omega (arith, c.in-2-to-16)) (omega (arith, c.in-2-to-16))
+returns-in-2-to-16 c = size_itself c.args.largest (omega arith) (omega arith)
 
 pub returns-in_default : goal.returns-in_default
-returns-in_default c =
-    size_low c.args.largest (λ q. omega (arith, q, c.in_default)) (omega (arith, c.in_default))
+returns-in_default c = size_low c.args.largest (λ q. omega (arith, q, c.in_default)) (omega arith)
 
 pub returns-in_default-2 : goal.returns-in_default-2
-returns-in_default-2 c =
-    size_high c.args.largest (λ q. omega (arith, q, c.in_default)) (omega (arith, c.in_default))
+returns-in_default-2 c = size_high c.args.largest (omega arith)

@@ -13,8 +13,8 @@ use Rattle.pruning.proofs.hop.Goals as goal
 use Rattle.pruning.proofs.hop.Goals.{In-Some}
 
 -- The next nested acquire.
-next : (c : In-Some) → Earliest (is_nested (decode_all c.args.records.now)) (length (decode_all c.args.records.now))
-    c.loop-x.at (Some c.in-Some.x)
+next : (c : In-Some) → let σ = decode_all c.args.records.now in
+    Earliest (is_nested σ) (length σ) c.loop-x.at (Some c.in-Some.x)
 next c =
     linked_earliest (decode_all c.args.records.now) c.args.next.now c.requires.3 c.loop-x.at
     c.loop-x.invariant.high _ c.in-Some.ensures
@@ -25,7 +25,8 @@ loop-x-init c =
 
 pub link-requires : goal.link-requires
 link-requires c =
-    omega (arith, c.loop-x.invariant.high, c.requires.3.long, c.requires.2, decode_all-length c.args.records.now)
+    let size = decode_all-length c.args.records.now in
+    omega (arith, c.loop-x.invariant.high, c.requires.3.long, c.requires.2)
 
 pub bounds-blocks-x : goal.bounds-blocks-x
 bounds-blocks-x c =

@@ -7,7 +7,8 @@ use Rattle.pruning.proofs.Walks.{Walked}
 use Rattle.pruning.proofs.hop.Given as goal
 
 abbrev pub invariant-loop-x : goal.invariant-loop-x
-invariant-loop-x l = Walked (is_near (decode_all l.records) l.blocks l.l) (length (decode_all l.records)) l.e l.at
+invariant-loop-x l =
+    Walked (is_near (decode_all l.records) l.blocks l.l) (length (decode_all l.records)) l.e l.at
 
 abbrev pub decreases-loop-x : goal.decreases-loop-x
 decreases-loop-x l = length (decode_all l.records) - l.at

@@ -11,7 +11,8 @@ loop-e-init c = marking-start (decode_all c.args.records.now) c.args.blocks.now 
 
 pub link-requires : goal.link-requires
 link-requires c =
-    omega (arith, c.loop-e.invariant.high, c.requires.2.long, c.requires.0, decode_all-length c.args.records.now)
+    let size = decode_all-length c.args.records.now in
+    omega (arith, c.loop-e.invariant.high, c.requires.2.long, c.requires.0)
 
 pub loop-e-preserved : goal.loop-e-preserved
 loop-e-preserved c =

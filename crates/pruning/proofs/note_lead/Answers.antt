@@ -8,6 +8,7 @@ use Rattle.model.specs.Recording.{decode_all}
 use Rattle.laws.proofs.Trace.{decode_all-length}
 use Rattle.laws.proofs.WellFormed.{acquire_lt}
 use Rattle.laws.proofs.Questions.{events_sound}
+use Rattle.pruning.specs.Linked.{number_of}
 use Rattle.pruning.proofs.Leads.{led-next, led_noted}
 use Rattle.pruning.proofs.note_lead.Goals as goal
 use Rattle.pruning.proofs.note_lead.Goals.{Start}
@@ -23,7 +24,7 @@ returns-then-guards-held-ne0 c =
     let a = c.args in
     let size = decode_all-length a.records.now in
     let is_held_lem = c.requires.4.at a.e c.requires.0 (omega (arith, c.requires.1)) in
-    led-next (decode_all a.records.now) a.a a.t a.guards a.lead.now a.e c.requires.6
+    led-next (decode_all a.records.now) a.a (number_of a.t) a.guards a.lead.now a.e c.requires.6
     (λ d n. absurd (c.if-guards-held-ne0.true (rw is_held_lem (eqb→eq _ 0 n))))
 
 pub bounds-lead-l : goal.bounds-lead-l
@@ -50,6 +51,6 @@ returns c =
     let b = a.records.now in
     let size = decode_all-length b in
     let is-object = c.object-l.ensures.1 in
-    led_noted (decode_all b) a.a a.t a.guards a.lead.now a.e c.requires.6 _ _
+    led_noted (decode_all b) a.a (number_of a.t) a.guards a.lead.now a.e c.requires.6 _ _
     (omega (arith, lock (goal.at.returns c).Start, is-object)) is-object
     (c.requires.4.at a.e c.requires.0 (omega (arith, c.requires.1)))

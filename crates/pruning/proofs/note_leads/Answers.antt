@@ -1,8 +1,9 @@
--- `pruning::note_leads` meets its contract: the acquires so far are noted, and all of them where no link leads
--- on. Assumes nothing.
+-- `pruning::note_leads` meets its contract: the acquires so far are noted, and all of them where no link
+-- leads on. Assumes nothing.
 use native.Mathlib.Omega.{arith}
 use Rattle.model.specs.Recording.{decode_all}
 use Rattle.laws.proofs.Trace.{decode_all-length}
+use Rattle.pruning.specs.Linked.{number_of}
 use Rattle.pruning.proofs.Links.{nested_acquire, linked_earliest}
 use Rattle.pruning.proofs.Leads.{led-start, led_link, led_end}
 use Rattle.pruning.proofs.note_leads.Goals as goal
@@ -11,7 +12,7 @@ pub loop-e-init : goal.loop-e-init
 loop-e-init c =
     let a = c.args in (
       omega (arith, c.requires.0, decode_all-length a.records.now),
-      led-start (decode_all a.records.now) a.a a.t a.guards a.lead.now c.requires.5,
+      led-start (decode_all a.records.now) a.a (number_of a.t) a.guards a.lead.now c.requires.5,
     )
 
 pub link-requires : goal.link-requires
@@ -23,7 +24,8 @@ note_lead-requires c =
     let a = c.args in
     let b = a.records.now in
     let l = c.loop-e in
-    let (d, y) = linked_earliest (decode_all b) a.next.now c.requires.4 l.at l.invariant.0 _ c.in-Some.ensures in
+    let (d, y) = linked_earliest (decode_all b) a.next.now c.requires.4 l.at l.invariant.0 _
+    c.in-Some.ensures in
     let e = y.passes d in
     let size = decode_all-length b in (
       omega (arith, e.0),
@@ -32,12 +34,13 @@ note_lead-requires c =
       c.requires.2,
       c.requires.3,
       nested_acquire _ c.in-Some.e e.2,
-      led_link (decode_all b) a.a a.t a.guards l.lead l.at l.invariant.1 c.in-Some.e y,
+      led_link (decode_all b) a.a (number_of a.t) a.guards l.lead l.at l.invariant.1 c.in-Some.e y,
     )
 
 pub returns : goal.returns
 returns c =
     let a = c.args in
     let l = c.loop-e in
-    led_end (decode_all a.records.now) a.a a.t a.guards l.lead l.at l.invariant.1
-    (linked_earliest (decode_all a.records.now) a.next.now c.requires.4 l.at l.invariant.0 _ c.in_default.ensures)
+    led_end (decode_all a.records.now) a.a (number_of a.t) a.guards l.lead l.at l.invariant.1
+    (linked_earliest (decode_all a.records.now) a.next.now c.requires.4 l.at l.invariant.0 _
+    c.in_default.ensures)

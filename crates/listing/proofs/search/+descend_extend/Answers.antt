@@ -56,13 +56,14 @@ descend-completes-requires t c =
 
 pub descend-returns-then-completes-clause-adds : goal.descend-returns-then-completes-clause-adds
 descend-returns-then-completes-clause-adds t c =
-    rw (descend-completes c.requires.1 c.in-Success.is c.requires.2 (sym c.completes.ensures ∙ c.if-completes.true))
-    c.take_pattern.ensures.adds
+    let all = sym c.completes.ensures ∙ c.if-completes.true in
+    rw (descend-completes c.requires.1 c.in-Success.is c.requires.2 all) c.take_pattern.ensures.adds
 
 pub descend-returns-then-k-eq0-clause-adds : goal.descend-returns-then-k-eq0-clause-adds
 descend-returns-then-k-eq0-clause-adds t c =
-    rw (descend_nothing c.requires.1 c.in-Success.is c.requires.2 (sym c.completes.ensures ∙ c.if-completes.false)
-        c.if-k-eq0.true) (adds_none c.args.room _ c.args.found)
+    let more = sym c.completes.ensures ∙ c.if-completes.false in
+    rw (descend_nothing c.requires.1 c.in-Success.is c.requires.2 more c.if-k-eq0.true)
+    (adds_none c.args.room _ c.args.found)
 
 pub descend-with_task-requires : goal.descend-with_task-requires
 descend-with_task-requires t c =
@@ -98,7 +99,8 @@ pub descend-returns-clause-kept : goal.descend-returns-clause-kept
 descend-returns-clause-kept t c =
     let a = c.args in
     let z = c.requires.1 in
-    kept_less _ _ a.len c.extend.ensures.kept ∙ path-kept a.path.now a.len a.e (omega (arith, z.sized, z.long))
+    kept_less _ _ a.len c.extend.ensures.kept
+    ∙ path-kept a.path.now a.len a.e (omega (arith, z.sized, z.long))
 
 pub descend-returns-clause-adds : goal.descend-returns-clause-adds
 descend-returns-clause-adds t c =
@@ -174,7 +176,8 @@ extend-descend-requires t c =
       omega (arith, c.decreases, c.requires.2),
       (
         c.requires.0,
-        descending o l.path l.invariant.0 l.invariant.1 c.requires.2 l.invariant.3 d y c.attempt-met.ensures.0,
+        descending o l.path l.invariant.0 l.invariant.1 c.requires.2 l.invariant.3 d y
+            c.attempt-met.ensures.0,
         still_returning o l.path l.invariant.0 l.invariant.1 c.requires.2 c.requires.3,
         l.invariant.3.roomy,
       ),

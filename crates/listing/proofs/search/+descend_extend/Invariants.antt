@@ -18,8 +18,8 @@ decreases-descend l = 2 * l.k + 1
 abbrev pub decreases-extend : goal.decreases-extend
 decreases-extend l = 2 * l.left
 
--- The path and the output keep their lengths, and the path its chain; what the events so far add was taken, and
--- where a task's frontier is kept, it is that of one of them.
+-- The path and the output keep their lengths, and the path its chain; what the events so far add was taken,
+-- and where a task's frontier is kept, it is that of one of them.
 abbrev pub invariant-extend-loop-e : goal.invariant-extend-loop-e
 invariant-extend-loop-e l =
     (length l.path ≡ largest_pattern) × (take l.len l.path ≡ take l.len l.initial.path)

@@ -15,8 +15,8 @@ use Rattle.listing.proofs.search.search_all.Goals as goal
 use Rattle.listing.proofs.search.search_all.Goals.{In-Some}
 
 -- The next nested acquire.
-next : (c : In-Some) → Earliest (is_nested (decode_all c.args.records.now)) (length (decode_all c.args.records.now))
-    c.loop-a.at (Some c.in-Some.a)
+next : (c : In-Some) → let σ = decode_all c.args.records.now in
+    Earliest (is_nested σ) (length σ) c.loop-a.at (Some c.in-Some.a)
 next c =
     linked_earliest (decode_all c.args.records.now) c.args.next.now c.requires.0.linked c.loop-a.at
     c.loop-a.invariant.2.high _ c.in-Some.ensures
@@ -26,8 +26,13 @@ loop-a-init c = (refl, refl, searching-start)
 
 pub link-requires : goal.link-requires
 link-requires c =
-    omega (arith, c.loop-a.invariant.2.high, decode_all-length c.args.records.now, c.requires.0.short,
-    c.requires.0.linked.long)
+    omega (
+      arith,
+      c.loop-a.invariant.2.high,
+      decode_all-length c.args.records.now,
+      c.requires.0.short,
+      c.requires.0.linked.long,
+    )
 
 pub search_first-requires : goal.search_first-requires
 search_first-requires c =
@@ -50,7 +55,8 @@ returns-in_err-found-clause-taken c =
     let (d, y) = next (goal.at.returns-in_err-found-clause-taken c).In-Some in
     let size : c.args.largest ≡ suc (c.args.largest - 1) = omega (arith, c.requires.1) in
     rw (passed_on c.from_residual.result _ c.from_residual.ensures.1, size)
-    (searching_over c.loop-a.invariant.2 d y (omega (arith, c.requires.1, c.requires.2)) c.in_err-found.ensures.adds)
+    (searching_over c.loop-a.invariant.2 d y (omega (arith, c.requires.1, c.requires.2))
+    c.in_err-found.ensures.adds)
 
 pub loop-a-preserved : goal.loop-a-preserved
 loop-a-preserved c =
@@ -66,5 +72,6 @@ pub returns-clause-taken : goal.returns-clause-taken
 returns-clause-taken c =
     let l = c.loop-a in
     let q : c.args.largest ≡ suc (c.args.largest - 1) = omega (arith, c.requires.1) in
-    rw q (searching_end l.invariant.2 (linked_earliest (decode_all c.args.records.now) c.args.next.now
-    c.requires.0.linked l.at l.invariant.2.high _ c.in_default.ensures) (omega (arith, c.requires.1, c.requires.2)))
+    let none = linked_earliest (decode_all c.args.records.now) c.args.next.now c.requires.0.linked l.at
+    l.invariant.2.high _ c.in_default.ensures in
+    rw q (searching_end l.invariant.2 none (omega (arith, c.requires.1, c.requires.2)))

@@ -29,18 +29,19 @@ leads_back-requires c =
 
 pub returns-then-not-leads_back-clause-adds : goal.returns-then-not-leads_back-clause-adds
 returns-then-not-leads_back-clause-adds c =
+    let a = c.args in
     let back = c.leads_back.ensures in
-    rw (beginning_nowhere (decode_all c.args.records.now) c.args.a c.args.largest _ c.requires.4 c.requires.5 back.0
-        (sym back.1 ∙ c.if-not-leads_back.true)) (adds_none c.args.room _ c.args.found)
+    rw (beginning_nowhere (decode_all a.records.now) a.a a.largest _ c.requires.4 c.requires.5 back.0
+    (sym back.1 ∙ c.if-not-leads_back.true)) (adds_none a.room _ a.found)
 
 pub returns-then-not-leads_back-2-clause-adds : goal.returns-then-not-leads_back-2-clause-adds
 returns-then-not-leads_back-2-clause-adds c =
+    let a = c.args in
     let back = c.leads_back-2.ensures in
-    rw (beginning_nowhere (decode_all c.args.records.now) c.args.a c.args.largest _ c.requires.4 c.requires.5 back.0
-        (sym back.1 ∙ c.if-not-leads_back-2.true)) (adds_none c.args.room _ c.args.found)
+    rw (beginning_nowhere (decode_all a.records.now) a.a a.largest _ c.requires.4 c.requires.5 back.0
+    (sym back.1 ∙ c.if-not-leads_back-2.true)) (adds_none a.room _ a.found)
 
 pub returns-clause-adds : goal.returns-clause-adds
 returns-clause-adds c =
-    let b = c.args.records.now in
-    rw (beginning_acquire (decode_all b) _ c.args.a (is_true (is_acquire (decode_all b) c.args.a) c.requires.4))
-    c.begin.ensures.adds
+    let σ = decode_all c.args.records.now in
+    rw (beginning_acquire σ _ c.args.a (is_true (is_acquire σ c.args.a) c.requires.4)) c.begin.ensures.adds
