@@ -12,8 +12,7 @@ ghost use Rattle.laws.specs.Sizes.{records_length, order_length};
 ghost use Rattle.laws.specs.Order.{start_in};
 ghost use Rattle.laws.specs.Walked.{Starts};
 ghost use Rattle.laws.specs.Frontier.{Settled, raised, wanted, Advanced, Turned};
-ghost use Rattle.frontier.specs.Visit.{Reading, Needed, wanted_earlier, latest_with, wanted_with};
-ghost use Rattle.frontier.specs.Visit.{Unreached};
+ghost use Rattle.frontier.specs.Visit.{Reading, Needed, wanted_earlier, latest_with, wanted_with, Unreached};
 
 use recording::Op;
 
