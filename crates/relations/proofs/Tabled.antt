@@ -8,7 +8,8 @@ use native.Mathlib.Omega.{arith}
 use lib.Dec.{eqb}
 use lib.Count.{ones, ones-le}
 use lib.ListN.{length, get_or, replicate, length-replicate}
-use Rattle.model.specs.Trace.{Trace, tasks, locks, variables, task, object, is_write, is_acquire}
+use Rattle.laws.specs.EventKinds.{marked}
+use Rattle.model.specs.Trace.{Trace, at, tasks, locks, variables, task, object, is_write, is_acquire}
 use Rattle.model.specs.Recording.{decode_all}
 use Rattle.model.specs.Relations.{predecessor, held}
 use Rattle.model.specs.Answers.{Relations}
@@ -24,29 +25,26 @@ use Rattle.laws.proofs.Relations.{predecessor_below, held_lt}
 use Rattle.laws.proofs.Marks.{marked_match}
 use Rattle.laws.proofs.Matches.{matches-start, matches_end}
 use Rattle.laws.proofs.Kept.{kept_depths-start}
-use Rattle.relations.specs.Tables.{operation, Tables, Long, Noted}
+use Rattle.relations.specs.declared.Tables.{Tables}
+use Rattle.relations.specs.declared.Walk.{Walk}
+use Rattle.relations.specs.Tables.{Tabled, Noted}
 
--- Before event 1 the tables are clear.
-pub noted-start : (σ : Trace) (operations owners objects holding predecessors writers matches : List ℕ)
-    → Long operations owners objects holding predecessors writers matches
-    → ((t : ℕ) → t < tasks → get_or predecessors (table_length + t) 0 ≡ 0)
-    → Noted σ 1 operations owners objects holding predecessors writers matches
-    (replicate tasks 0) (replicate variables 0) (replicate locks 1) (replicate tasks 0) (replicate locks 0)
-noted-start σ operations owners objects holding predecessors writers matches long clear = record {
-  long = long;
-  working = record {
-    latest_long = refl;
-    write_long = length-replicate {A = ℕ} variables 0;
-    acquire_long = refl;
-  };
-  operation_filled = filled-start (operation σ) operations;
-  task_filled = filled-start (task σ) owners;
-  object_filled = filled-start (object σ) objects;
-  held_filled = filled-start (held σ) holding;
-  predecessor_filled = filled-start (predecessor σ) predecessors;
-  start_filled = starts-start σ predecessors clear;
-  writer_filled = filled-start (awaited σ) writers;
-  matching_filled = matches-start σ matches;
+-- Before event 1 nothing is noted.
+pub noted-start : (σ : Trace) (tables : Tables)
+    → ((t : ℕ) → t < tasks → get_or tables.predecessors (table_length + t) 0 ≡ 0)
+    → Noted σ 1 tables (record {
+      latest = replicate tasks 0;
+      writes = replicate variables 0;
+      depths = replicate locks 1;
+      locksets = replicate tasks 0;
+      acquires = replicate locks 0;
+    })
+noted-start σ tables clear = record {
+  held_filled = filled-start (held σ) tables.holding;
+  predecessor_filled = filled-start (predecessor σ) tables.predecessors;
+  start_filled = starts-start σ tables.predecessors clear;
+  awaited_filled = filled-start (awaited σ) tables.awaited;
+  matching_filled = matches-start σ tables.matches;
   latest_event = latest-start (λ f. true) (task σ) tasks;
   write_latest = latest-start (is_write σ) (object σ) variables;
   depth = kept_depths-start;
@@ -55,61 +53,25 @@ noted-start σ operations owners objects holding predecessors writers matches lo
 }
 
 -- After the last event each table has its relation for every event.
-pub noted_end : (b : List ℕ) (e : ℕ)
-    {operations tasks objects holding predecessors writers matches : List ℕ}
-    {latest writes depths locksets acquires : List ℕ}
-    → Noted (decode_all b) e operations tasks objects holding predecessors writers matches latest writes
-    depths locksets
-    acquires
-    → e ≤ length b / 2 + 1 → length b / 2 < e
-    → Tables (decode_all b) operations tasks objects holding predecessors writers matches
-noted_end b e {matches = matches} z h k = record {
-  long = z.long;
-  operation_at = λ f i j. z.operation_filled.at f i (omega (arith, decode_all-length b));
-  task_at = λ f i j. z.task_filled.at f i (omega (arith, decode_all-length b));
-  object_at = λ f i j. z.object_filled.at f i (omega (arith, decode_all-length b));
+pub noted_end : (b : List ℕ) (e : ℕ) {tables : Tables} {walk : Walk} → Noted (decode_all b) e tables walk
+    → e ≤ length b / 2 + 1 → length b / 2 < e → Tabled (decode_all b) tables
+noted_end b e {tables = tables} z h k = record {
   held_at = λ f i j. z.held_filled.at f i (omega (arith, decode_all-length b));
   predecessor_at = λ f i j. z.predecessor_filled.at f i (omega (arith, decode_all-length b));
   start_at = rw last at z.start_filled;
-  writer_at = λ f i j. z.writer_filled.at f i (omega (arith, decode_all-length b));
-  matching_at = matches_end (decode_all b) matches (rw last at z.matching_filled);
+  awaited_at = λ f i j. z.awaited_filled.at f i (omega (arith, decode_all-length b));
+  matching_at = matches_end (decode_all b) tables.matches (rw last at z.matching_filled);
 }
   where
     last : e ≡ suc (length (decode_all b))
     last = omega (arith, decode_all-length b)
 
--- ---- one event's relations, off the tables
-
-module _ {σ : Trace} {operations tasks objects holding predecessors writers matches : List ℕ}
-    (z : Tables σ operations tasks objects holding predecessors writers matches) (e : ℕ) (h : 1 ≤ e)
-    (k : e ≤ length σ) where
-  -- The answer is what the tables have.
-  pub tables_answer : ◌≡◌ {A = Relations}
-      (record {
-        refusal = 0;
-        event = 0;
-        held = get_or holding e 0;
-        locks = ones (get_or holding e 0);
-        matching = cond (eqb (get_or matches e 0) e) 0 (get_or matches e 0);
-        writer = cond (eqb (get_or operations e 0) 0) (get_or writers e 0) 0;
-        predecessor = get_or predecessors e 0;
-      })
-      (event_relations σ e)
-  tables_answer =
-      rw (
-        z.held_at e h k,
-        z.matching_at e h k,
-        z.operation_at e h k,
-        z.writer_at e h k,
-        z.predecessor_at e h k,
-        ← (marked_match σ e h),
-        ← (writer_off σ e),
-      )
-
-  -- The number of held locks fits,
-  pub locks_fit : ones (get_or holding e 0) ≤ 64
-  locks_fit = rw (z.held_at e h k) (ones-le 64 (held σ e) (held_lt σ e))
-
-  -- and so does the number of the predecessor.
-  pub predecessor-fits : get_or predecessors e 0 ≤ length σ
-  predecessor-fits = rw (z.predecessor_at e h k) (omega (arith, predecessor_below σ e))
+-- The relations of an event, off what the tables have of it.
+pub related_is : (σ : Trace) (e : ℕ) → 1 ≤ e → {h p a m op w r c n : ℕ} → h ≡ held σ e → p ≡ predecessor σ e
+    → a ≡ awaited σ e → m ≡ marked σ e → op ≡ (at σ e).op → w ≡ cond (eqb op 0) a 0 → r ≡ cond (eqb m e) 0 m
+    → c ≡ ones h → n ≡ p
+    → ◌≡◌ {A = Relations}
+    (record { refusal = 0; event = 0; held = h; locks = c; matching = r; writer = w; predecessor = n })
+    (event_relations σ e)
+related_is σ e h q p a m o w r c n =
+    rw (n, c, w, r, q, p, a, m, o, ← (marked_match σ e h), ← (writer_off σ e))

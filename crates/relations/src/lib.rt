@@ -1,168 +1,104 @@
-// The relations of a recording's events: tables of all of them, filled in one pass over its records, and the
-// call that gives those of one event. Tables are lent, and have an entry for each event number to 4,095, that
-// of predecessors also one for each task.
+// The relations of a recording's events: an accepted recording with tables of them, filled in one pass over its
+// records, and the call that gives those of one event.
 #![tactic(auto)]
 
-ghost use Rattle.std.specs.Prelude.{◌+◌, ◌*◌, ◌/◌, ◌<◌, ◌≤◌, ◌≡◌, cond, eqb, length};
-ghost use Rattle.model.specs.Trace.{locks, task, object, is_acquire};
-ghost use Rattle.model.specs.Recording.{decode_all};
-ghost use Rattle.model.specs.Relations.{held};
-ghost use Rattle.model.specs.Calls.Check.{check_events};
+ghost use Rattle.std.specs.Prelude.{ℕ, ◌+◌, ◌*◌, ◌<◌, ◌≤◌, ◌≡◌, cond, eqb, length, get_or, Ok};
+ghost use Rattle.model.specs.Trace.{tasks, variables, at, task, object};
+ghost use Rattle.model.specs.Recording.{decode_all, event_count, trace};
+ghost use Rattle.model.specs.Relations.{held, predecessor};
+ghost use Rattle.model.specs.Calls.Check.{check_events, check};
 ghost use Rattle.model.specs.Calls.Relations.{relations};
-ghost use Rattle.laws.specs.Sizes.{records_length, table_length, order_length};
 ghost use Rattle.model.specs.Answers.{relations_of};
-ghost use Rattle.recording.specs.Asked.{code};
-ghost use Rattle.sections.specs.Kinds.{kind_code};
+ghost use Rattle.laws.specs.Sizes.{records_length, table_length};
 ghost use Rattle.laws.specs.Answered.{event_relations};
-ghost use Rattle.laws.specs.EventKinds.{kind};
-ghost use Rattle.laws.specs.Walked.{Filled, LatestEvents, KeptDepths, Locksets, Matches};
-ghost use Rattle.relations.specs.Tables.{operation, Tables, Noted};
+ghost use Rattle.laws.specs.EventKinds.{marked};
+ghost use Rattle.laws.specs.Order.{awaited, start_in};
+ghost use Rattle.recording.specs.Asked.{code};
+ghost use Rattle.relations.specs.Tables.{Tabled, Noted};
 
 use model::{Question, Refusal, Related};
 use recording::Op;
-use sections::Kind;
 
-// Notes what event e's own record says.
-fn note_record(
-    records: &[u8],
-    e: usize,
-    operations: &mut [u8],
-    tasks: &mut [u8],
-    objects: &mut [u16],
-)
-    requires { (1 ≤ e) × (2 * e ≤ length records.now) × (e < table_length)
-        × (length operations.old ≡ table_length) × (length tasks.old ≡ table_length)
-        × (length objects.old ≡ table_length)
-        × Filled (operation (decode_all records.now)) e operations.old
-        × Filled (task (decode_all records.now)) e tasks.old
-        × Filled (object (decode_all records.now)) e objects.old }
-    ensures { Filled (operation (decode_all records.now)) (e + 1) operations.new
-        × Filled (task (decode_all records.now)) (e + 1) tasks.new
-        × Filled (object (decode_all records.now)) (e + 1) objects.new }
-{
-    let op = recording::operation(records, e) as u8;
-    let t = recording::task(records, e);
-    let o = recording::object(records, e);
-    operations[e] = op;
-    tasks[e] = t;
-    objects[e] = o;
+// An accepted recording: its records, and tables of what its events' relations are.
+#[derive(Drop)]
+pub struct Trace<'a> {
+    pub records: &'a [u8],
+    tables: Tables,
+    ghost short: { length records.now ≤ records_length },
+    ghost accepted: { (check_events (decode_all records.now)).refusal ≡ 0 },
+    ghost held_at: { (e : ℕ) → 1 ≤ e → 2 * e ≤ length records.now
+        → get_or tables.holding e 0 ≡ held (decode_all records.now) e },
+    ghost predecessor_at: { (e : ℕ) → 1 ≤ e → 2 * e ≤ length records.now
+        → get_or tables.predecessors e 0 ≡ predecessor (decode_all records.now) e },
+    ghost start_at: { (t : ℕ) → t < tasks
+        → get_or tables.predecessors (table_length + t) 0 ≡ start_in (decode_all records.now) t },
+    ghost awaited_at: { (e : ℕ) → 1 ≤ e → 2 * e ≤ length records.now
+        → get_or tables.awaited e 0 ≡ awaited (decode_all records.now) e },
+    ghost marked_at: { (e : ℕ) → 1 ≤ e → 2 * e ≤ length records.now
+        → get_or tables.matches e 0 ≡ marked (decode_all records.now) e },
 }
 
-// Notes what event e does to locks: held locks, match, and the depths; and returns its kind.
-fn note_locks(
-    records: &[u8],
-    e: usize,
-    holding: &mut [u64],
-    matches: &mut [u16],
-    depths: &mut [u16],
-    locksets: &mut [u64],
-    acquires: &mut [u16],
-) -> Kind
-    requires { (1 ≤ e) × (2 * e ≤ length records.now) × (e < table_length)
-        × ((check_events (decode_all records.now)).refusal ≡ 0)
-        × (length holding.old ≡ table_length) × (length matches.old ≡ table_length)
-        × (length acquires.old ≡ locks)
-        × Filled (held (decode_all records.now)) e holding.old
-        × Matches (decode_all records.now) e matches.old
-        × KeptDepths (decode_all records.now) e depths.old
-        × Locksets (decode_all records.now) e locksets.old
-        × LatestEvents (is_acquire (decode_all records.now)) (object (decode_all records.now)) e
-        acquires.old }
-    ensures { (kind_code result ≡ kind (decode_all records.now) e)
-        × (length acquires.new ≡ locks)
-        × Filled (held (decode_all records.now)) (e + 1) holding.new
-        × Matches (decode_all records.now) (e + 1) matches.new
-        × KeptDepths (decode_all records.now) (e + 1) depths.new
-        × Locksets (decode_all records.now) (e + 1) locksets.new
-        × LatestEvents (is_acquire (decode_all records.now))
-        (object (decode_all records.now))
-        (e + 1) acquires.new }
-{
-    let mask = sections::held_locks(records, e, locksets);
-    let k = sections::kind_of(records, e, mask, depths);
-    sections::note_lockset(records, e, k, locksets);
-    sections::note_match(records, e, k, matches, acquires);
-    holding[e] = mask;
-    k
+// Of each event the held locks, the predecessor, what it awaits (a read its writer, a join what it waits for),
+// and its match, or for an inner event, a start or a join its own number. Behind the predecessors there is an
+// entry for each task, with its start.
+#[derive(Drop)]
+struct Tables {
+    holding: [u64; 4096],
+    predecessors: [u16; 4112],
+    awaited: [u16; 4096],
+    matches: [u16; 4096],
+}
+
+// What noting an event asks for of the earlier ones: the latest event of each task, the latest write of each
+// variable, the depth of each lock, or 1 where it has none, the locks of each task, and the latest acquire of
+// each lock.
+#[derive(Drop)]
+struct Walk {
+    latest: [u16; 16],
+    writes: [u16; 1024],
+    depths: [u16; 64],
+    locksets: [u64; 16],
+    acquires: [u16; 64],
 }
 
 // Notes event e in every table.
-fn note_event(
-    records: &[u8],
-    e: usize,
-    operations: &mut [u8],
-    tasks: &mut [u8],
-    objects: &mut [u16],
-    holding: &mut [u64],
-    predecessors: &mut [u16],
-    writers: &mut [u16],
-    matches: &mut [u16],
-    latest: &mut [u16],
-    writes: &mut [u16],
-    depths: &mut [u16],
-    locksets: &mut [u64],
-    acquires: &mut [u16],
-)
+fn note_event(records: &[u8], e: usize, tables: &mut Tables, walk: &mut Walk)
     requires { (1 ≤ e) × (2 * e ≤ length records.now) × (e < table_length)
         × ((check_events (decode_all records.now)).refusal ≡ 0)
-        × Noted (decode_all records.now) e operations.old tasks.old objects.old holding.old
-        predecessors.old writers.old matches.old latest.old writes.old depths.old locksets.old
-        acquires.old }
-    ensures { Noted (decode_all records.now) (e + 1) operations.new
-        tasks.new
-        objects.new holding.new predecessors.new writers.new
-        matches.new latest.new writes.new depths.new
-        locksets.new acquires.new }
+        × Noted (decode_all records.now) e tables.old walk.old }
+    ensures { Noted (decode_all records.now) (e + 1) tables.new walk.new }
 {
-    note_record(records, e, operations, tasks, objects);
-    let k = note_locks(records, e, holding, matches, depths, locksets, acquires);
-    order::note_order(records, e, k, predecessors, latest, writers, writes);
+    let mask = sections::held_locks(records, e, &walk.locksets);
+    let kind = sections::kind_of(records, e, mask, &mut walk.depths);
+    sections::note_lockset(records, e, kind, &mut walk.locksets);
+    sections::note_match(records, e, kind, &mut tables.matches, &mut walk.acquires);
+    tables.holding[e] = mask;
+    order::note_order(
+        records,
+        e,
+        kind,
+        &mut tables.predecessors,
+        &mut walk.latest,
+        &mut tables.awaited,
+        &mut walk.writes,
+    );
 }
 
-// Fills the tables of the records, whose events are accepted: one pass, each event noted in turn. That of
-// writers also has what joins wait for.
-pub fn fill_tables(
-    records: &[u8],
-    operations: &mut [u8],
-    tasks: &mut [u8],
-    objects: &mut [u16],
-    holding: &mut [u64],
-    predecessors: &mut [u16],
-    writers: &mut [u16],
-    matches: &mut [u16],
-)
-    requires { (length records.now ≤ records_length) × ((check_events (decode_all records.now)).refusal ≡ 0)
-        × (length operations.old ≡ table_length) × (length tasks.old ≡ table_length)
-        × (length objects.old ≡ table_length) × (length holding.old ≡ table_length)
-        × (length predecessors.old ≡ order_length) × (length writers.old ≡ table_length)
-        × (length matches.old ≡ table_length) }
-    ensures { Tables (decode_all records.now) operations.new tasks.new
-        objects.new holding.new predecessors.new writers.new
-        matches.new }
+// Fills the tables of the records, whose events are accepted: one pass, each event noted in turn.
+fn fill_tables(records: &[u8], tables: &mut Tables)
+    requires { (length records.now ≤ records_length) × ((check_events (decode_all records.now)).refusal ≡ 0) }
+    ensures { Tabled (decode_all records.now) tables.new }
 {
-    let mut latest = [0u16; 16];
-    let mut writes = [0u16; 1024];
-    let mut depths = [1u16; 64];
-    let mut locksets = [0u64; 16];
-    let mut acquires = [0u16; 64];
-    order::clear_starts(predecessors);
+    let mut walk = Walk {
+        latest: [0; 16],
+        writes: [0; 1024],
+        depths: [1; 64],
+        locksets: [0; 16],
+        acquires: [0; 64],
+    };
+    order::clear_starts(&mut tables.predecessors);
     for e in 1..records.len() / 2 + 1 {
-        note_event(
-            records,
-            e,
-            operations,
-            tasks,
-            objects,
-            holding,
-            predecessors,
-            writers,
-            matches,
-            &mut latest,
-            &mut writes,
-            &mut depths,
-            &mut locksets,
-            &mut acquires,
-        );
+        note_event(records, e, tables, &mut walk);
     }
 }
 
@@ -171,41 +107,114 @@ fn writer_of(operation: Op, awaited: u16) -> u64
     ensures { result ≡ cond (eqb (code operation) 0) awaited 0 }
 {
     match operation {
-        Op::Read => awaited as u64,
+        Op::Read => u64::from(awaited),
         _ => 0,
     }
 }
 
-// The relations of event e of records whose events are accepted, read off the tables.
-fn related(records: &[u8], e: usize) -> Related
-    requires { (length records.now ≤ records_length) × ((check_events (decode_all records.now)).refusal ≡ 0)
-        × (1 ≤ e) × (e ≤ length records.now / 2) }
-    ensures { relations_of (Ok result) ≡ event_relations (decode_all records.now) e }
-{
-    let mut operations = [0u8; 4096];
-    let mut tasks = [0u8; 4096];
-    let mut objects = [0u16; 4096];
-    let mut holding = [0u64; 4096];
-    let mut predecessors = [0u16; 4112];
-    let mut writers = [0u16; 4096];
-    let mut matches = [0u16; 4096];
-    fill_tables(
-        records,
-        &mut operations,
-        &mut tasks,
-        &mut objects,
-        &mut holding,
-        &mut predecessors,
-        &mut writers,
-        &mut matches,
-    );
-    let mask = holding[e];
-    Related {
-        held: mask,
-        locks: u64::count_ones(mask) as u64,
-        matching: sections::unmarked(matches[e], e),
-        writer: writer_of(recording::operation(records, e), writers[e]),
-        predecessor: predecessors[e] as u64,
+impl<'a> Trace<'a> {
+    // An accepted recording.
+    pub fn read(recording: &'a [u8]) -> Trace<'a>
+        requires { (check recording.now).refusal ≡ 0 }
+        ensures events { decode_all result.records.now ≡ trace recording.now }
+        ensures length { length result.records.now ≡ 2 * event_count recording.now }
+    {
+        let records = &recording[2..];
+        let mut tables = Tables {
+            holding: [0; 4096],
+            predecessors: [0; 4112],
+            awaited: [0; 4096],
+            matches: [0; 4096],
+        };
+        fill_tables(records, &mut tables);
+        Trace { records, tables }
+    }
+
+    // How many events there are.
+    pub fn len(&self) -> usize
+        ensures { (result < table_length) × (result ≡ length (decode_all self.now.records.now))
+            × (2 * result ≤ length self.now.records.now) }
+    {
+        self.records.len() / 2
+    }
+
+    // The operation of event e.
+    pub fn operation(&self, e: usize) -> Op
+        requires { (1 ≤ e) × (2 * e ≤ length self.now.records.now) }
+        ensures { code result ≡ (at (decode_all self.now.records.now) e).op }
+    {
+        recording::operation(self.records, e)
+    }
+
+    // The task of event e.
+    pub fn task(&self, e: usize) -> u8
+        requires { (1 ≤ e) × (2 * e ≤ length self.now.records.now) }
+        ensures { (result < tasks) × (result ≡ task (decode_all self.now.records.now) e) }
+    {
+        recording::task(self.records, e)
+    }
+
+    // The lock or variable of event e, or what stands for the task that it starts or joins.
+    pub fn object(&self, e: usize) -> u16
+        requires { (1 ≤ e) × (2 * e ≤ length self.now.records.now) }
+        ensures { (result < variables) × (result ≡ object (decode_all self.now.records.now) e) }
+    {
+        recording::object(self.records, e)
+    }
+
+    // The held locks of event e, as a mask.
+    pub fn held(&self, e: usize) -> u64
+        requires { (1 ≤ e) × (2 * e ≤ length self.now.records.now) }
+        ensures { result ≡ held (decode_all self.now.records.now) e }
+    {
+        self.tables.holding[e]
+    }
+
+    // The predecessor of event e, or 0.
+    pub fn predecessor(&self, e: usize) -> u16
+        requires { (1 ≤ e) × (2 * e ≤ length self.now.records.now) }
+        ensures { result ≡ predecessor (decode_all self.now.records.now) e }
+    {
+        self.tables.predecessors[e]
+    }
+
+    // The start of task t, or 0.
+    pub fn start(&self, t: usize) -> u16
+        requires { t < tasks }
+        ensures { result ≡ start_in (decode_all self.now.records.now) t }
+    {
+        self.tables.predecessors[4096 + t]
+    }
+
+    // What event e awaits besides its predecessor: a read its writer, a join what it waits for, or 0.
+    pub fn awaited(&self, e: usize) -> u16
+        requires { (1 ≤ e) × (2 * e ≤ length self.now.records.now) }
+        ensures { result ≡ awaited (decode_all self.now.records.now) e }
+    {
+        self.tables.awaited[e]
+    }
+
+    // The match of event e, or 0; of an inner event, a start or a join its own number.
+    pub fn matching(&self, e: usize) -> u16
+        requires { (1 ≤ e) × (2 * e ≤ length self.now.records.now) }
+        ensures { result ≡ marked (decode_all self.now.records.now) e }
+    {
+        self.tables.matches[e]
+    }
+
+    // The relations of event e.
+    fn related(&self, e: usize) -> Related
+        requires { (1 ≤ e) × (2 * e ≤ length self.now.records.now) }
+        ensures { relations_of (Ok result) ≡ event_relations (decode_all self.now.records.now) e }
+    {
+        let held = self.held(e);
+        Related {
+            held,
+            locks: u64::from(held.count_ones()),
+            matching: sections::unmarked(self.matching(e), e),
+            writer: writer_of(self.operation(e), self.awaited(e)),
+            predecessor: u64::from(self.predecessor(e)),
+        }
     }
 }
 
@@ -218,5 +227,5 @@ pub fn relations(recording: &[u8], event: u64) -> Result<Related, Refusal>
     if event == 0 || (n as u64) < event {
         return Err(Question::EventNumber.into());
     }
-    Ok(related(&recording[2..], event as usize))
+    Ok(Trace::read(recording).related(event as usize))
 }

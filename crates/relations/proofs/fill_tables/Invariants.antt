@@ -5,7 +5,4 @@ use Rattle.relations.specs.Tables.{Noted}
 use Rattle.relations.proofs.fill_tables.Given as goal
 
 abbrev pub invariant-loop-e : goal.invariant-loop-e
-invariant-loop-e l =
-    Noted (decode_all l.records) l.e l.operations l.tasks l.objects l.holding l.predecessors l.writers
-    l.matches l.latest l.writes
-    l.depths l.locksets l.acquires
+invariant-loop-e l = Noted (decode_all l.records) l.e l.tables l.walk

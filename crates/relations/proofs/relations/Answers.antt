@@ -43,20 +43,17 @@ returns-then-event-eq0 c =
     (accepted (goal.at.returns-then-event-eq0 c).In_ok-check)
     (unknown (goal.at.returns-then-event-eq0 c).Joined-then-event-eq0)))
 
-pub related-requires : goal.related-requires
-related-requires c =
-    let b = c.args.recording.now in
-    let ok = accepted (goal.at.related-requires c).In_ok-check in
-    let n = c.event_count-n.ensures in (
-      omega (arith, n, part_length b ok),
-      part_accepted b ok,
-      omega (arith, c.if-event-eq0.false),
-      omega (arith, n, part_length b ok, c.if-n-event.false),
-    )
-
 pub event_count-n-requires : goal.event_count-n-requires
 event_count-n-requires c =
     (check_bytes c.args.recording.now (accepted (goal.at.event_count-n-requires c).In_ok-check)).0
+
+pub read-requires : goal.read-requires
+read-requires c = accepted (goal.at.read-requires c).In_ok-check
+
+pub related-requires : goal.related-requires
+related-requires c =
+    let n = c.event_count-n.ensures in
+    (omega (arith, c.if-event-eq0.false), omega (arith, n, c.read.ensures.length, c.if-n-event.false))
 
 pub returns : goal.returns
 returns c =
@@ -65,14 +62,5 @@ returns c =
     let n = c.event_count-n.ensures in
     let event = is_event_true (trace b) c.args.event (omega (arith, c.if-event-eq0.false))
     (omega (arith, check-count b ok, n, c.if-n-event.false)) in
-    c.related.ensures ∙ ap (λ (σ : Trace). event_relations σ c.args.event) (part-trace b)
+    c.related.ensures ∙ ap (λ (σ : Trace). event_relations σ c.args.event) c.read.ensures.events
     ∙ sym (relations_answer b c.args.event ok event)
-
-pub slice_bounds-related-count : goal.slice_bounds-related-count
-slice_bounds-related-count c =
-    (check_bytes c.args.recording.now (accepted (goal.at.slice_bounds-related-count c).In_ok-check)).0
-
-pub slice_bounds-related-start : goal.slice_bounds-related-start
-slice_bounds-related-start c =
-    let h = (check_bytes c.args.recording.now (accepted (goal.at.slice_bounds-related-start c).In_ok-check)).0 in
-    search rules
