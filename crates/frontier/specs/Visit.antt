@@ -1,30 +1,12 @@
--- Visiting one event: what it adds to the wanted events, and to the latest acquires. The tables that it needs
--- have the relations of each event, and for the match of a record that does not count its own number.
-use Rattle.std.specs.Prelude.{ℕ, suc, ◌<◌, ◌≤◌, min, ◌≡◌, cond, List, Option, Some, None, eqb, length, get_or}
+-- Visiting one event: what it adds to the wanted events, and to the latest acquires.
+use Rattle.std.specs.Prelude.{ℕ, ◌<◌, ◌≤◌, min, ◌≡◌, cond, List, Option, Some, None, eqb, length, get_or}
 use Rattle.model.specs.Trace.{Trace, tasks, task, object, is_acquire}
-use Rattle.model.specs.Relations.{predecessor}
 use Rattle.laws.specs.Order.{awaited}
-use Rattle.laws.specs.Walked.{Starts}
 use Rattle.laws.specs.EventKinds.{marked}
-use Rattle.laws.specs.Sizes.{table_length, order_length}
 use Rattle.laws.specs.Frontier.{raised, wanted}
 
--- The tables that a visit needs, with an entry for each event of the longest recording.
-pub record Reading (σ : Trace) (writers matches : List ℕ) : Type 0 where
-  pub writer_long : length writers ≡ table_length
-  pub matching_long : length matches ≡ table_length
-  pub writer_at : (e : ℕ) → 1 ≤ e → e ≤ length σ → get_or writers e 0 ≡ awaited σ e
-  pub matching_at : (e : ℕ) → 1 ≤ e → e ≤ length σ → get_or matches e 0 ≡ marked σ e
-
--- The tables that a closure needs.
-pub record Needed (σ : Trace) (predecessors writers matches : List ℕ) : Type 0 where
-  pub predecessor_long : length predecessors ≡ order_length
-  pub predecessor_at : (e : ℕ) → 1 ≤ e → e ≤ length σ → get_or predecessors e 0 ≡ predecessor σ e
-  pub start_at : Starts σ (suc (length σ)) predecessors
-  pub reading : Reading σ writers matches
-
--- The wanted events with what the table has as the match of the earlier one of `top` and f, unless `top` is
--- 0. Of two outer acquires that is the match.
+-- The wanted events with the marked match of the earlier one of `top` and f, unless `top` is 0. Of two outer
+-- acquires that is the match.
 unfoldable pub wanted_earlier : Trace → List ℕ → ℕ → ℕ → List ℕ
 wanted_earlier σ want top f =
     cond (eqb top 0) want (raised want (task σ (min top f)) (marked σ (min top f)))

@@ -14,28 +14,28 @@ use Rattle.closure.proofs.close_set.Goals.{After-count-after}
 
 -- The lent set's events are counted,
 before : (c : goal.After-count-after)
-    → let σ = decode_all c.args.records.now in
+    → let σ = decode_all c.args.trace.now.records.now in
     c.count-before.result ≡ length (members σ (lent_set σ c.args.set.now))
 before c =
     let p = c.pack in
-    let σ = decode_all c.args.records.now in
+    let σ = decode_all c.args.trace.now.records.now in
     let small : length σ ≤ 64 * length p.new.words =
-    omega (arith, c.requires.0, decode_all-length c.args.records.now, p.auto.words) in
+    omega (arith, c.requires.0, decode_all-length c.args.trace.now.records.now, p.auto.words) in
     c.count-before.ensures ∙ count_lent σ c.args.set.now p.new.words p.ensures c.requires.3 _ small
 
 -- and those of its closure.
 after : (c : goal.After-count-after)
-    → let σ = decode_all c.args.records.now in
+    → let σ = decode_all c.args.trace.now.records.now in
     c.count-after.result ≡ length (members σ (closure σ (lent_set σ c.args.set.now)))
 after c =
     let q = c.put_behind in
     let r = c.reach in
     let p = c.pack in
-    let σ = decode_all c.args.records.now in
+    let σ = decode_all c.args.trace.now.records.now in
     let small : length σ ≤ 64 * length q.new.words = omega (
       arith,
       c.requires.0,
-      decode_all-length c.args.records.now,
+      decode_all-length c.args.trace.now.records.now,
       q.auto.words,
     ) in
     c.count-after.ensures
@@ -44,7 +44,7 @@ after c =
 
 pub pack-requires : goal.pack-requires
 pack-requires c =
-    omega (arith, c.requires.0, c.requires.2, decode_all-length c.args.records.now)
+    omega (arith, c.requires.0, c.requires.2, decode_all-length c.args.trace.now.records.now)
 
 pub unpack-requires : goal.unpack-requires
 unpack-requires c =
@@ -52,13 +52,13 @@ unpack-requires c =
       arith,
       c.requires.0,
       c.requires.2,
-      decode_all-length c.args.records.now,
+      decode_all-length c.args.trace.now.records.now,
       c.put_behind.auto.words,
     )
 
 pub overflow_sub-result : goal.overflow_sub-result
 overflow_sub-result c =
-    let grow = members_grow (decode_all c.args.records.now) c.args.set.now in
+    let grow = members_grow (decode_all c.args.trace.now.records.now) c.args.set.now in
     omega (
       arith,
       before (goal.at.overflow_sub-result c).After-count-after,
@@ -73,7 +73,7 @@ returns c =
     let long : length bytes ≡ length set = c.unpack.auto.set in record {
       answer = ap₂ ◌-◌ (after (goal.at.returns c).After-count-after)
           (before (goal.at.returns c).After-count-after);
-      output = bytes_closed (decode_all c.args.records.now) set c.pack.new.words c.pack.ensures
+      output = bytes_closed (decode_all c.args.trace.now.records.now) set c.pack.new.words c.pack.ensures
           c.reach.new.front c.put_behind.new.words c.reach.ensures
           c.put_behind.ensures bytes (long ∙ c.requires.2) (λ k. (c.type_inv.set k).fits)
           (λ i h. c.unpack.ensures i (omega (arith, long)));

@@ -7,12 +7,5 @@ use Rattle.frontier.proofs.begin.Goals as goal
 
 pub want_event-requires : goal.want_event-requires
 want_event-requires c =
-    let σ = decode_all c.args.records.now in (
-      omega (
-        arith,
-        c.requires.3.at c.args.t c.requires.0,
-        start_in_le σ c.args.t,
-        decode_all-length c.args.records.now,
-      ),
-      c.requires.2,
-    )
+    let b = c.args.trace.now.records.now in
+    (omega (arith, c.start-start.ensures, start_in_le (decode_all b) c.args.t, decode_all-length b), c.requires.1)

@@ -3,7 +3,6 @@
 use Prim.Native.Nat.{◌≤◌}
 use mathlib.Core.Path.{sym, ◌∙◌}
 use native.Mathlib.Omega.{arith}
-use Rattle.laws.proofs.Trace.{decode_all-length}
 use Rattle.frontier.proofs.Leaves.{wanted_earlier-none, wanted_earlier_some}
 use Rattle.frontier.proofs.visit_acquire.Goals as goal
 
@@ -15,13 +14,8 @@ returns-then-top-eq0 c =
 pub want_match-requires : goal.want_match-requires
 want_match-requires c =
     let event : (1 ≤ c.min.result) × (c.min.result ≤ c.args.f) =
-    omega (arith, c.min.ensures, c.if-top-eq0.false, c.requires.0) in (
-      event.0,
-      omega (arith, event, c.requires.1),
-      omega (arith, event, c.requires.2),
-      c.requires.3 _ event.0 (omega (arith, event, c.requires.1, decode_all-length c.args.records.now)),
-      c.requires.4,
-    )
+    omega (arith, c.min.ensures, c.if-top-eq0.false, c.requires.0) in
+    (event.0, omega (arith, event, c.requires.1), c.requires.2)
 
 pub returns : goal.returns
 returns c =

@@ -4,10 +4,10 @@ use Prim.Native.Nat.{◌-◌}
 use Rattle.model.specs.Recording.{decode_all}
 use Rattle.frontier.proofs.Totals.{total}
 use Rattle.frontier.proofs.Rounds.{Round}
-use Rattle.frontier.proofs.advance.Given as goal
+use Rattle.frontier.proofs.Frontier.advance.Given as goal
 
 abbrev pub invariant-loop-t : goal.invariant-loop-t
-invariant-loop-t l = Round (decode_all l.records) l.initial.want l.front l.want l.latest
+invariant-loop-t l = Round (decode_all l.trace.records.now) l.initial.want l.self.front l.want l.self.latest
 
 abbrev pub decreases-loop-t : goal.decreases-loop-t
-decreases-loop-t l = 65536 - total l.front
+decreases-loop-t l = 65536 - total l.self.front

@@ -5,18 +5,18 @@ use Rattle.model.specs.Recording.{decode_all}
 use Rattle.laws.proofs.Trace.{decode_all-length}
 use Rattle.laws.proofs.Questions.{events_sound}
 use Rattle.frontier.proofs.Rounds.{round_end, round_less}
-use Rattle.frontier.proofs.advance.Goals as goal
+use Rattle.frontier.proofs.Frontier.advance.Goals as goal
 
 pub loop-t-smaller : goal.loop-t-smaller
 loop-t-smaller c =
     let k = c.loop-t in
-    let b = c.args.records.now in
-    round_less (decode_all b) c.args.want.now k.front k.want k.latest k.invariant
-    (omega (arith, c.requires.0, decode_all-length b)) _ c.in-Some.ensures _ _ _ c.turn.ensures
+    let b = c.args.trace.now.records.now in
+    round_less (decode_all b) c.args.want.now k.self.front k.want k.self.latest k.invariant
+    (omega (arith, c.args.trace.now.short, decode_all-length b)) _ c.in-Some.ensures _ _ _ c.turn.ensures
 
 pub returns : goal.returns
 returns c =
     let k = c.loop-t in
-    let b = c.args.records.now in
-    round_end (decode_all b) c.args.want.now k.front k.want k.latest k.invariant
-    (events_sound b c.requires.1) c.in_default.ensures
+    let b = c.args.trace.now.records.now in
+    (round_end (decode_all b) c.args.want.now k.self.front k.want k.self.latest k.invariant
+    (events_sound b c.args.trace.now.accepted) c.in_default.ensures).0

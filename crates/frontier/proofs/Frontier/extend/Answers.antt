@@ -1,0 +1,50 @@
+-- `frontier::extend` meets its contract: with the predecessor wanted, the frontier advances. Assumes nothing.
+use Prim.Native.Nat.{ℕ, ◌≤◌}
+use mathlib.Core.Path.{◌≡◌, ap, ◌∙◌}
+use mathlib.Core.List.{List}
+use native.Mathlib.Omega.{arith}
+use lib.ListN.{length, get_or}
+use Rattle.model.specs.Relations.{predecessor}
+use Rattle.model.specs.Recording.{decode_all}
+use Rattle.laws.specs.Frontier.{wanted}
+use Rattle.laws.proofs.Trace.{decode_all-length}
+use Rattle.laws.proofs.Relations.{predecessor_below}
+use Rattle.laws.proofs.Wanted.{settled-wanted}
+use Rattle.laws.proofs.Questions.{events_sound}
+use Rattle.frontier.proofs.Frontier.extend.Goals as goal
+use Rattle.frontier.proofs.Frontier.extend.Goals.{After-want_event, Start}
+
+-- The predecessor is an event of the records, or 0.
+known : (c : goal.Start)
+    → predecessor (decode_all c.args.trace.now.records.now) c.args.e ≤ length (decode_all
+    c.args.trace.now.records.now)
+known c =
+    let b = c.args.trace.now.records.now in
+    omega (arith, predecessor_below (decode_all b) c.args.e, c.requires.2, decode_all-length b)
+
+-- The wanted events with it.
+more : (c : goal.After-want_event)
+    → c.want_event.new.want
+    ≡ wanted (decode_all c.args.trace.now.records.now) c.args.self.now.front
+    (predecessor (decode_all c.args.trace.now.records.now) c.args.e)
+more c = rw (← c.predecessor.ensures) c.want_event.ensures
+
+pub want_event-requires : goal.want_event-requires
+want_event-requires c = (
+  omega (
+    arith,
+    c.predecessor.ensures,
+    known (goal.at.want_event-requires c).Start,
+    decode_all-length c.args.trace.now.records.now,
+  ),
+  c.requires.0.want_ok.long,
+)
+
+pub advance-requires : goal.advance-requires
+advance-requires c =
+    rw (more (goal.at.advance-requires c).After-want_event)
+    (settled-wanted _ (events_sound c.args.trace.now.records.now c.args.trace.now.accepted) _ _ _ c.requires.0 _
+    (known (goal.at.advance-requires c).Start))
+
+pub returns : goal.returns
+returns c = rw (more (goal.at.returns c).After-want_event) at c.advance.ensures
