@@ -74,26 +74,14 @@ returns-then-not-spare_clear c =
     (sized (goal.at.returns-then-not-spare_clear c).Else-set-n) no in
     record { answer = rw c.into-then-not-spare_clear.ensures (sym x); output = sym y }
 
-pub slice_bounds-close_set-count : goal.slice_bounds-close_set-count
-slice_bounds-close_set-count c =
-    (check_bytes _ (accepted (goal.at.slice_bounds-close_set-count c).In_ok-check)).0
-
-pub slice_bounds-close_set-start : goal.slice_bounds-close_set-start
-slice_bounds-close_set-start c =
-    let h = (check_bytes _ (accepted (goal.at.slice_bounds-close_set-start c).In_ok-check)).0 in
-    search rules
+pub read-requires : goal.read-requires
+read-requires c = accepted (goal.at.read-requires c).In_ok-check
 
 pub close_set-requires : goal.close_set-requires
 close_set-requires c =
-    let b = c.args.recording.now in
-    let ok = accepted (goal.at.close_set-requires c).In_ok-check in
     let yes = sym (is-clear (goal.at.close_set-requires c).After-spare_clear)
-    ∙ c.if-not-spare_clear.false in (
-      part_small b ok (c.type_inv.recording 1).fits,
-      part_accepted b ok,
-      rw (part-trace b) (sized (goal.at.close_set-requires c).Else-set-n),
-      rw (part-trace b, yes) tt,
-    )
+    ∙ c.if-not-spare_clear.false in
+    rw c.read.ensures.events (sized (goal.at.close_set-requires c).Else-set-n, rw yes tt)
 
 pub returns : goal.returns
 returns c =
@@ -102,8 +90,8 @@ returns c =
     let yes = sym (is-clear (goal.at.returns c).After-spare_clear) ∙ c.if-not-spare_clear.false in
     let (x, y) = close_closed b a.set.now (accepted (goal.at.returns c).In_ok-check)
     (sized (goal.at.returns c).Else-set-n) yes in
-    let added = rw (part-trace b) at c.close_set.ensures.answer in
-    let bytes = rw (part-trace b) at c.close_set.ensures.output in
+    let added = rw c.read.ensures.events at c.close_set.ensures.answer in
+    let bytes = rw c.read.ensures.events at c.close_set.ensures.output in
     record {
       answer =
           ap (λ (m : ℕ). record { refusal = 0; event = 0; added = m }) added ∙ sym x;

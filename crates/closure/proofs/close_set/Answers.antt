@@ -20,8 +20,8 @@ before c =
     let p = c.pack in
     let σ = decode_all c.args.trace.now.records.now in
     let small : length σ ≤ 64 * length p.new.words =
-    omega (arith, c.requires.0, decode_all-length c.args.trace.now.records.now, p.auto.words) in
-    c.count-before.ensures ∙ count_lent σ c.args.set.now p.new.words p.ensures c.requires.3 _ small
+    omega (arith, c.args.trace.now.short, decode_all-length c.args.trace.now.records.now, p.auto.words) in
+    c.count-before.ensures ∙ count_lent σ c.args.set.now p.new.words p.ensures c.requires.1 _ small
 
 -- and those of its closure.
 after : (c : goal.After-count-after)
@@ -29,29 +29,29 @@ after : (c : goal.After-count-after)
     c.count-after.result ≡ length (members σ (closure σ (lent_set σ c.args.set.now)))
 after c =
     let q = c.put_behind in
-    let r = c.reach in
+    let r = c.reach-frontier in
     let p = c.pack in
     let σ = decode_all c.args.trace.now.records.now in
     let small : length σ ≤ 64 * length q.new.words = omega (
       arith,
-      c.requires.0,
+      c.args.trace.now.short,
       decode_all-length c.args.trace.now.records.now,
       q.auto.words,
     ) in
     c.count-after.ensures
-    ∙ count_closed σ c.args.set.now p.new.words p.ensures r.new.front q.new.words
+    ∙ count_closed σ c.args.set.now p.new.words p.ensures r.result.front q.new.words
     r.ensures q.ensures _ small
 
 pub pack-requires : goal.pack-requires
 pack-requires c =
-    omega (arith, c.requires.0, c.requires.2, decode_all-length c.args.trace.now.records.now)
+    omega (arith, c.args.trace.now.short, c.requires.0, decode_all-length c.args.trace.now.records.now)
 
 pub unpack-requires : goal.unpack-requires
 unpack-requires c =
     omega (
       arith,
+      c.args.trace.now.short,
       c.requires.0,
-      c.requires.2,
       decode_all-length c.args.trace.now.records.now,
       c.put_behind.auto.words,
     )
@@ -74,7 +74,7 @@ returns c =
       answer = ap₂ ◌-◌ (after (goal.at.returns c).After-count-after)
           (before (goal.at.returns c).After-count-after);
       output = bytes_closed (decode_all c.args.trace.now.records.now) set c.pack.new.words c.pack.ensures
-          c.reach.new.front c.put_behind.new.words c.reach.ensures
-          c.put_behind.ensures bytes (long ∙ c.requires.2) (λ k. (c.type_inv.set k).fits)
+          c.reach-frontier.result.front c.put_behind.new.words c.reach-frontier.ensures
+          c.put_behind.ensures bytes (long ∙ c.requires.0) (λ k. (c.type_inv.set k).fits)
           (λ i h. c.unpack.ensures i (omega (arith, long)));
     }

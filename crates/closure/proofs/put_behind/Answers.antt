@@ -10,7 +10,7 @@ use Rattle.closure.proofs.Sets.{row-none}
 use Rattle.closure.proofs.put_behind.Goals as goal
 
 pub loop-e-init : goal.loop-e-init
-loop-e-init c = λ i. row-none c.args.words.now i _ c.requires.2
+loop-e-init c = λ i. row-none c.args.words.now i _ c.requires
 
 pub returns : goal.returns
 returns c =
