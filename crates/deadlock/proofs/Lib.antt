@@ -5,4 +5,3 @@ pub mod Verdicts
 pub mod Answers
 pub mod Written
 pub mod Delivered
-pub mod Tabled

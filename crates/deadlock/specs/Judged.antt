@@ -1,5 +1,4 @@
--- The table that question 10 reads and its test of each number, what is decided of a lent pattern, and the
--- events in the set of a frontier.
+-- Question 10's test of each number, what is decided of a lent pattern, and the events in the set of a frontier.
 use Rattle.std.specs.Prelude.{ℕ, ◌+◌, ◌-◌, ◌<◌, ◌≤◌, ◌≡◌, Bool, cond, ◌&&◌, List, [], ◌∷◌, leb, ltb, length}
 use Rattle.std.specs.Prelude.{get_or, Option, Some, None}
 use Rattle.model.specs.declared.Verdict.{Verdict}
@@ -7,16 +6,9 @@ use Rattle.model.specs.declared.Verdict.TheVariants.{Not, Deadlock}
 use Rattle.model.specs.Lists.{filter, from}
 use Rattle.model.specs.Bytes.{numbers, is_whole}
 use Rattle.model.specs.Trace.{Trace, tasks, task, is_event}
-use Rattle.model.specs.Relations.{held}
 use Rattle.model.specs.Pattern.{is_pattern, is_deadlock}
-use Rattle.laws.specs.Sizes.{table_length}
 use Rattle.laws.specs.Chain.{Chain, signature, fits}
 use Rattle.laws.specs.Frontier.{FrontOf}
-
--- The table of held locks, with an entry for each event of the longest recording.
-pub record Holding (σ : Trace) (holding : List ℕ) : Type 0 where
-  pub long : length holding ≡ table_length
-  pub at : (e : ℕ) → 1 ≤ e → e ≤ length σ → get_or holding e 0 ≡ held σ e
 
 -- Event e may come next in a chain that may become a pattern: an event later than the first one, which fits.
 unfoldable pub joins : Trace → Chain → ℕ → Bool

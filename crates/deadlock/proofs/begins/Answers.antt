@@ -9,24 +9,23 @@ use Rattle.deadlock.proofs.begins.Goals as goal
 pub returns-then-e-eq0 : goal.returns-then-e-eq0
 returns-then-e-eq0 c =
     let a = c.args in
-    rw (is_event_false (decode_all a.records.now) a.e (λ h. omega (arith, c.if-e-eq0.true)))
+    rw (is_event_false (decode_all a.trace.now.records.now) a.e (λ h. omega (arith, c.if-e-eq0.true)))
 
-pub returns-then-records-e : goal.returns-then-records-e
-returns-then-records-e c =
+pub returns-then-len-e : goal.returns-then-len-e
+returns-then-len-e c =
     let a = c.args in
-    rw (is_event_false (decode_all a.records.now) a.e
-    (λ h. omega (arith, c.if-records-e.true, decode_all-length a.records.now)))
+    rw (is_event_false (decode_all a.trace.now.records.now) a.e
+    (λ h. omega (arith, c.if-len-e.true, c.len.ensures)))
 
 pub is_acquire-requires : goal.is_acquire-requires
 is_acquire-requires c =
-    let size = decode_all-length c.args.records.now in
     let first : 1 ≤ c.args.e = omega (arith, c.if-e-eq0.false) in
-    let last : c.args.e ≤ length (decode_all c.args.records.now) = omega (arith, c.if-records-e.false) in
-    (first, omega (arith, last), c.requires.1, c.requires.2.at c.args.e first last)
+    let last : c.args.e ≤ length (decode_all c.args.trace.now.records.now) =
+    omega (arith, c.if-len-e.false, c.len.ensures) in
+    (first, omega (arith, last, decode_all-length c.args.trace.now.records.now), c.held.ensures)
 
 pub returns : goal.returns
 returns c =
-    let size = decode_all-length c.args.records.now in
-    let event = is_event_true (decode_all c.args.records.now) c.args.e (omega (arith, c.if-e-eq0.false))
-    (omega (arith, c.if-records-e.false)) in
+    let event = is_event_true (decode_all c.args.trace.now.records.now) c.args.e
+    (omega (arith, c.if-e-eq0.false)) (omega (arith, c.if-len-e.false, c.len.ensures)) in
     rw event c.is_acquire.ensures

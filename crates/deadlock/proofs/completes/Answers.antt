@@ -16,14 +16,14 @@ use Rattle.deadlock.proofs.completes.Goals as goal
 
 pub loop-i-init : goal.loop-i-init
 loop-i-init c =
-    let b = c.args.records.now in
+    let b = c.args.trace.now.records.now in
     let a = c.args.a in
     let size = decode_all-length b in (
       c.requires.0,
       c.requires.1,
-      c.requires.5,
+      c.requires.2,
       completing-start (decode_all b) a _ _ (drop 1 (numbers c.args.pattern.now))
-          c.with_task-tasks.ensures (c.requires.4.at a c.requires.0 (omega (arith, c.requires.1))),
+          c.with_task-tasks.ensures c.held-held.ensures,
     )
 
 pub returns-then-not-joins : goal.returns-then-not-joins
@@ -34,23 +34,23 @@ returns-then-not-joins c =
     let inside : k.i < length (numbers a.pattern.now) =
     omega (arith, c.loop-i-test.true) in
     let apart = sym c.joins.ensures ∙ c.if-not-joins.true in
-    rw (completing_unfit (decode_all a.records.now) (numbers a.pattern.now) a.a k.last k.tasks
+    rw (completing_unfit (decode_all a.trace.now.records.now) (numbers a.pattern.now) a.a k.last k.tasks
     k.guards k.i inside (rw c.number-e.ensures at apart)) at k.invariant.3
 
 pub with_task-tasks-requires-in-loop-i : goal.with_task-tasks-requires-in-loop-i
 with_task-tasks-requires-in-loop-i c =
     let z = joins-event _ _ _ (sym c.joins.ensures ∙ c.if-not-joins.false) in (z.0, z.1)
 
-pub bounds-holding-e : goal.bounds-holding-e
-bounds-holding-e c =
-    let z = joins-event _ _ _ (sym c.joins.ensures ∙ c.if-not-joins.false) in search rules
+pub held-guards-requires : goal.held-guards-requires
+held-guards-requires c =
+    let z = joins-event _ _ _ (sym c.joins.ensures ∙ c.if-not-joins.false) in (z.0, z.1)
 
 pub loop-i-preserved : goal.loop-i-preserved
 loop-i-preserved c =
     let s = c
     in
     let k = c.loop-i in
-    let b = s.args.records.now in
+    let b = s.args.trace.now.records.now in
     let size = decode_all-length b in
     let count = numbers-length s.args.pattern.now in
     let more = c.loop-i-test.true in
@@ -62,16 +62,16 @@ loop-i-preserved c =
       completing_fit (decode_all b) (numbers s.args.pattern.now) s.args.a k.last k.tasks
           k.guards k.i (omega arith) _ _ _ c.number-e.ensures joined
           c.with_task-tasks-in-loop-i.ensures
-          (ap (bit_or k.guards) (s.requires.4.at _ z.0 (omega (arith, z.1)))) ∙ k.invariant.3,
+          (ap (bit_or k.guards) c.held-guards.ensures) ∙ k.invariant.3,
     )
 
 pub returns : goal.returns
 returns c =
     let a = c.args in
     let k = c.loop-i in
-    let size = decode_all-length a.records.now in
+    let size = decode_all-length a.trace.now.records.now in
     let count = numbers-length a.pattern.now in
     c.lock_in_mask.ensures
-    ∙ rw (c.requires.4.at a.a c.requires.0 (omega (arith, c.requires.1)))
-    (sym (completing_last (decode_all a.records.now) (numbers a.pattern.now) a.a k.last
+    ∙ rw c.held-held.ensures
+    (sym (completing_last (decode_all a.trace.now.records.now) (numbers a.pattern.now) a.a k.last
     k.tasks k.guards k.i (omega (arith, c.loop-i-test.false))) ∙ k.invariant.3)

@@ -12,7 +12,7 @@ use Rattle.deadlock.proofs.completes.Given as goal
 
 abbrev pub invariant-loop-i : goal.invariant-loop-i
 invariant-loop-i l =
-    (1 ≤ l.last) × (2 * l.last ≤ length l.records) × T (is_acquire (decode_all l.records) l.last)
-    × (completing (decode_all l.records) (chain_of l.a l.last l.tasks l.guards) (drop l.i (numbers l.pattern))
-    ≡ completing (decode_all l.records) (start (signature (decode_all l.records)) l.a)
+    (1 ≤ l.last) × (2 * l.last ≤ length l.trace.records.now) × T (is_acquire (decode_all l.trace.records.now) l.last)
+    × (completing (decode_all l.trace.records.now) (chain_of l.a l.last l.tasks l.guards) (drop l.i (numbers l.pattern))
+    ≡ completing (decode_all l.trace.records.now) (start (signature (decode_all l.trace.records.now)) l.a)
     (drop 1 (numbers l.pattern)))

@@ -16,16 +16,16 @@ overflow_add-count c =
     let k = c.loop-e in
     omega (
       arith,
-      behind-count (decode_all c.args.records.now) c.args.front.now k.e k.auto.e,
+      behind-count (decode_all c.args.trace.now.records.now) c.args.frontier.now.front k.e k.auto.e,
       c.loop-e-test.true,
-      c.requires.0,
+      c.len-e-end.ensures,
     )
 
 pub loop-e-preserved : goal.loop-e-preserved
 loop-e-preserved c =
     let k = c.loop-e in
-    let σ = decode_all c.args.records.now in
-    let front = c.args.front.now in
+    let σ = decode_all c.args.trace.now.records.now in
+    let front = c.args.frontier.now.front in
     let is = c.contains.ensures in
     elim c.if-contains.branch [
       | then-contains w ↦ w.count-is ∙ omega (
@@ -41,9 +41,9 @@ loop-e-preserved c =
 pub returns : goal.returns
 returns c =
     let k = c.loop-e in
-    let σ = decode_all c.args.records.now in
-    let size = decode_all-length c.args.records.now in
-    let last : k.e ≡ length σ + 1 = omega (arith, c.loop-e-test.false, k.auto.e-end) in (
-      omega (arith, k.invariant, behind-count σ c.args.front.now k.e k.auto.e, c.requires.0),
-      k.invariant ∙ ap (λ (e : ℕ). length (behind_below σ c.args.front.now e)) last,
+    let σ = decode_all c.args.trace.now.records.now in
+    let size = decode_all-length c.args.trace.now.records.now in
+    let last : k.e ≡ length σ + 1 = omega (arith, c.loop-e-test.false, k.auto.e-end, c.len-e-end.ensures) in (
+      omega (arith, k.invariant, behind-count σ c.args.frontier.now.front k.e k.auto.e, c.args.trace.now.short),
+      k.invariant ∙ ap (λ (e : ℕ). length (behind_below σ c.args.frontier.now.front e)) last,
     )

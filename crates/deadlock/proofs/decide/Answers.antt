@@ -11,56 +11,55 @@ use borrow.Author.Rules.{rules}
 use lib.ListN.{get_or}
 use Rattle.laws.proofs.Before.{before-start}
 use Rattle.laws.proofs.Pattern.{lent_events}
-use Rattle.deadlock.proofs.Verdicts.{judged-none, judged-verdict}
+use Rattle.deadlock.proofs.Verdicts.{judged-none, judged-verdict, judged_reached}
 use Rattle.deadlock.proofs.decide.Goals as goal
 use Rattle.deadlock.proofs.decide.Goals.{Else-not-lends_pattern}
 
 -- The lent bytes are a pattern.
 pattern-lent : (c : goal.Else-not-lends_pattern)
     → (is_whole c.args.pattern.now
-    && is_pattern (decode_all c.args.records.now)
+    && is_pattern (decode_all c.args.trace.now.records.now)
     (numbers c.args.pattern.now))
     ≡ true
 pattern-lent c = sym c.lends_pattern.ensures ∙ c.if-not-lends_pattern.false
 
 pub returns-then-not-lends_pattern-clause-decided : goal.returns-then-not-lends_pattern-clause-decided
 returns-then-not-lends_pattern-clause-decided c =
-    sym (judged-none (decode_all c.args.records.now) c.args.pattern.now
+    sym (judged-none (decode_all c.args.trace.now.records.now) c.args.pattern.now
     (sym c.lends_pattern.ensures ∙ c.if-not-lends_pattern.true))
 
 pub reach-requires : goal.reach-requires
 reach-requires c =
-    let σ = decode_all c.args.records.now in (
-      c.requires.0,
-      c.requires.1,
-      c.requires.3,
-      lent_events σ c.args.pattern.now (pattern-lent (goal.at.reach-requires c).Else-not-lends_pattern),
-      before-start σ c.args.front.now _ c.requires.4 refl,
-      sym c.requires.4,
-    )
+    lent_events (decode_all c.args.trace.now.records.now) c.args.pattern.now
+    (pattern-lent (goal.at.reach-requires c).Else-not-lends_pattern)
 
 pub avoids-requires-clause-events : goal.avoids-requires-clause-events
 avoids-requires-clause-events c = λ i e h k.
     let p = c.args.pattern.now in
     let is : e ≡ get_or (numbers p) i 0 = search rules in
-    let (x, y, z) = listed-event c.args.records.now (numbers p) i
-    (lent_events (decode_all c.args.records.now) p
+    let (x, y, z) = listed-event c.args.trace.now.records.now (numbers p) i
+    (lent_events (decode_all c.args.trace.now.records.now) p
     (pattern-lent (goal.at.avoids-requires-clause-events c).Else-not-lends_pattern))
     (numbers_inside p h) is in
     (x, z)
 
-pub returns-then-avoids-clause-decided : goal.returns-then-avoids-clause-decided
-returns-then-avoids-clause-decided c =
+pub returns-then-avoids : goal.returns-then-avoids
+returns-then-avoids c =
+    let σ = decode_all c.args.trace.now.records.now in
     let p = c.args.pattern.now in
-    let v = c.avoids.ensures (numbers p) (numbers-length p, λ i e h k. search rules) in
-    sym (judged-verdict (decode_all c.args.records.now) p
-    (pattern-lent (goal.at.returns-then-avoids-clause-decided c).Else-not-lends_pattern) _ _
-    true c.reach.ensures (sym c.if-avoids.true ∙ v))
+    let z = c.reach.ensures in
+    let v = c.avoids.ensures (numbers p) (numbers-length p, λ i e h k. search rules) in record {
+      decided = sym (judged-verdict σ p
+          (pattern-lent (goal.at.returns-then-avoids c).Else-not-lends_pattern) _ _
+          true z (sym c.if-avoids.true ∙ v));
+      reached = λ _. judged_reached σ p _ _ z;
+    }
 
 pub returns-clause-decided : goal.returns-clause-decided
 returns-clause-decided c =
+    let σ = decode_all c.args.trace.now.records.now in
     let p = c.args.pattern.now in
     let v = c.avoids.ensures (numbers p) (numbers-length p, λ i e h k. search rules) in
-    sym (judged-verdict (decode_all c.args.records.now) p
+    sym (judged-verdict σ p
     (pattern-lent (goal.at.returns-clause-decided c).Else-not-lends_pattern) _ _
     false c.reach.ensures (sym c.if-avoids.false ∙ v))

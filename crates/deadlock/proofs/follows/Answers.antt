@@ -9,36 +9,28 @@ use Rattle.deadlock.proofs.Chains.{fits_lock, fits_guards, fits_acquire}
 use Rattle.deadlock.proofs.follows.Goals as goal
 use Rattle.deadlock.proofs.follows.Goals.{Start}
 
--- The table has the event's held locks.
-holds : (c : goal.Start) → let a = c.args in
-    get_or a.holding.now a.e 0 ≡ held (decode_all a.records.now) a.e
-holds c =
-    c.requires.6.at c.args.e c.requires.2
-    (omega (arith, c.requires.3, decode_all-length c.args.records.now))
-
 pub returns-then-not-lock_in_mask : goal.returns-then-not-lock_in_mask
 returns-then-not-lock_in_mask c =
     let a = c.args in
-    fits_lock (decode_all a.records.now) a.last a.tasks a.guards a.e
-    (holds (goal.at.returns-then-not-lock_in_mask c).Start)
+    fits_lock (decode_all a.trace.now.records.now) a.last a.tasks a.guards a.e
+    c.held-held.ensures
     (sym c.lock_in_mask.ensures ∙ c.if-not-lock_in_mask.true)
 
 pub returns-then-guards-held-ne0 : goal.returns-then-guards-held-ne0
 returns-then-guards-held-ne0 c =
     let a = c.args in
-    fits_guards (decode_all a.records.now) a.last a.tasks a.guards a.e
-    (holds (goal.at.returns-then-guards-held-ne0 c).Start)
+    fits_guards (decode_all a.trace.now.records.now) a.last a.tasks a.guards a.e
+    c.held-held.ensures
     c.task.ensures.1 c.if-guards-held-ne0.true
 
 pub is_acquire-requires : goal.is_acquire-requires
-is_acquire-requires c =
-    (c.requires.2, c.requires.3, c.requires.5, holds (goal.at.is_acquire-requires c).Start)
+is_acquire-requires c = (c.requires.2, c.requires.3, c.held-held.ensures)
 
 pub returns : goal.returns
 returns c =
     let a = c.args in
     c.is_acquire.ensures
-    ∙ fits_acquire (decode_all a.records.now) a.last a.tasks a.guards a.e (holds (goal.at.returns c).Start)
+    ∙ fits_acquire (decode_all a.trace.now.records.now) a.last a.tasks a.guards a.e c.held-held.ensures
     c.task.ensures.1
     (sym c.lock_in_mask.ensures ∙ c.if-not-lock_in_mask.false)
     (sym c.in_mask.ensures ∙ c.if-in_mask.false) c.if-guards-held-ne0.false

@@ -10,22 +10,23 @@ use Rattle.deadlock.proofs.joins.Goals as goal
 pub returns-then-e-a : goal.returns-then-e-a
 returns-then-e-a c =
     let a = c.args in
-    joins_early (decode_all a.records.now) (chain_of a.a a.last a.tasks a.guards) a.e
+    joins_early (decode_all a.trace.now.records.now) (chain_of a.a a.last a.tasks a.guards) a.e
     (omega (arith, c.if-e-a.true))
 
-pub returns-then-records-e : goal.returns-then-records-e
-returns-then-records-e c =
+pub returns-then-len-e : goal.returns-then-len-e
+returns-then-len-e c =
     let a = c.args in
-    let size = decode_all-length a.records.now in
-    joins_past (decode_all a.records.now) (chain_of a.a a.last a.tasks a.guards) a.e
-    (is_event_false _ a.e (λ h. omega (arith, c.if-records-e.true)))
+    let size = decode_all-length a.trace.now.records.now in
+    joins_past (decode_all a.trace.now.records.now) (chain_of a.a a.last a.tasks a.guards) a.e
+    (is_event_false _ a.e (λ h. omega (arith, c.if-len-e.true, c.len.ensures)))
 
 pub returns : goal.returns
 returns c =
     let a = c.args in
-    let size = decode_all-length a.records.now in
+    let size = decode_all-length a.trace.now.records.now in
     let later = c.if-e-a.false in
-    let low = c.if-records-e.false in
+    let low = c.if-len-e.false in
+    let count = c.len.ensures in
     c.follows.ensures
-    ∙ joins_fit (decode_all a.records.now) (chain_of a.a a.last a.tasks a.guards) a.e
+    ∙ joins_fit (decode_all a.trace.now.records.now) (chain_of a.a a.last a.tasks a.guards) a.e
     (is_event_true _ a.e (omega arith) (omega arith)) (omega arith)

@@ -19,26 +19,11 @@ returns-in_err-check c =
     rw (passed_on c.from_residual.result _ c.from_residual.ensures.1)
     (sym (rw (← q) at (verdict_unchecked c.args.recording.now c.args.pattern.now (is_refused _ _ q))))
 
-pub slice_bounds-judge-count : goal.slice_bounds-judge-count
-slice_bounds-judge-count c =
-    (check_bytes c.args.recording.now (accepted (goal.at.slice_bounds-judge-count c).In_ok-check)).0
-
-pub slice_bounds-judge-start : goal.slice_bounds-judge-start
-slice_bounds-judge-start c =
-    let h = (check_bytes _ (accepted (goal.at.slice_bounds-judge-start c).In_ok-check)).0 in search rules
-
-pub judge-requires : goal.judge-requires
-judge-requires c =
-    let b = c.args.recording.now in
-    let ok = accepted (goal.at.judge-requires c).In_ok-check in (
-      part_small b ok (c.type_inv.recording 1).fits,
-      part_accepted b ok,
-      refl,
-    )
+pub read-trace-requires : goal.read-trace-requires
+read-trace-requires c = accepted (goal.at.read-trace-requires c).In_ok-check
 
 pub returns : goal.returns
 returns c =
-    let b = c.args.recording.now in
-    let is = rw (part-trace b) at c.judge.ensures.decided in
+    let is = rw c.read-trace.ensures.events at c.decide.ensures.decided in
     rw (c.ok_or.ensures.value, c.into.ensures, is)
-    (verdict_accepted b c.args.pattern.now (accepted (goal.at.returns c).In_ok-check))
+    (verdict_accepted c.args.recording.now c.args.pattern.now (accepted (goal.at.returns c).In_ok-check))

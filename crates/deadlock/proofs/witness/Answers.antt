@@ -23,27 +23,16 @@ returns-in_err-check c =
       output = sym y;
     }
 
-pub slice_bounds-witness_records-count : goal.slice_bounds-witness_records-count
-slice_bounds-witness_records-count c =
-    (check_bytes _ (accepted (goal.at.slice_bounds-witness_records-count c).In_ok-check)).0
-
-pub slice_bounds-witness_records-start : goal.slice_bounds-witness_records-start
-slice_bounds-witness_records-start c =
-    let h = (check_bytes _ (accepted (goal.at.slice_bounds-witness_records-start c).In_ok-check)).0 in
-    search rules
-
-pub witness_records-requires : goal.witness_records-requires
-witness_records-requires c =
-    let ok = accepted (goal.at.witness_records-requires c).In_ok-check in
-    (part_small _ ok (c.type_inv.recording 1).fits, part_accepted _ ok)
+pub read-requires : goal.read-requires
+read-requires c = accepted (goal.at.read-requires c).In_ok-check
 
 pub returns : goal.returns
 returns c =
     let a = c.args in
     let (x, y) =
     witness_accepted a.recording.now a.pattern.now a.out.now (accepted (goal.at.returns c).In_ok-check) in
-    let w = c.witness_records.ensures in
+    let w = c.witness_trace.ensures in
     record {
-      answer = (rw (part-trace a.recording.now) at w.answer) ∙ sym x;
-      output = (rw (part-trace a.recording.now) at w.output) ∙ sym y;
+      answer = (rw c.read.ensures.events at w.answer) ∙ sym x;
+      output = (rw c.read.ensures.events at w.output) ∙ sym y;
     }
