@@ -11,7 +11,7 @@ use borrow.Author.Rules.{rules}
 use lib.ListN.{get_or}
 use Rattle.laws.proofs.Before.{before-start}
 use Rattle.laws.proofs.Pattern.{lent_events}
-use Rattle.deadlock.proofs.Verdicts.{judged-none, judged-verdict, judged_reached}
+use Rattle.deadlock.proofs.Verdicts.{judged-none, judged-verdict}
 use Rattle.deadlock.proofs.decide.Goals as goal
 use Rattle.deadlock.proofs.decide.Goals.{Else-not-lends_pattern}
 
@@ -52,7 +52,7 @@ returns-then-avoids c =
       decided = sym (judged-verdict σ p
           (pattern-lent (goal.at.returns-then-avoids c).Else-not-lends_pattern) _ _
           true z (sym c.if-avoids.true ∙ v));
-      reached = λ _. judged_reached σ p _ _ z;
+      reached = λ _. record { long = z.settled.front_ok.long; members = z.members };
     }
 
 pub returns-clause-decided : goal.returns-clause-decided
