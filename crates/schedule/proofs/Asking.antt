@@ -1,5 +1,5 @@
 -- The tests as the code asks them of the tables and the records, case by case. Assumes nothing.
-use Prim.Native.Nat.{ℕ, ◌*◌, ◌/◌, ◌≤◌, ◌<◌}
+use Prim.Native.Nat.{ℕ, ◌*◌, ◌≤◌, ◌<◌}
 use mathlib.Core.Path.{◌≡◌, sym, ◌∙◌}
 use mathlib.Core.Logic.{◌≢◌}
 use mathlib.Core.Bool.{Bool, true, false}
@@ -20,9 +20,10 @@ use Rattle.laws.proofs.Operations.{is_read_op, is_join-none, is_acquire-none}
 use Rattle.laws.proofs.Awaited.{awaited_read, awaited_other, awaited_below}
 use Rattle.laws.proofs.Marks.{WithMark, marked_le, marked_uncounted, marked_outer}
 use Rattle.laws.proofs.WellFormed.{WellFormed, acquire_lt}
+use Rattle.schedule.specs.declared.Progress.{Progress}
 use Rattle.schedule.specs.Listed.{Listed}
 use Rattle.schedule.specs.Next.{is_listed, is_ready, is_next, is_unlocked}
-use Rattle.schedule.proofs.Laws.{no_such_event, not-next, read_follows, acquire_follows, other_follows}
+use Rattle.schedule.proofs.Laws.{read_follows, acquire_follows, other_follows}
 
 -- ---- one table
 
@@ -83,14 +84,6 @@ module _ (σ : Trace) (last : List ℕ) (e : ℕ) where
     unlocked_matched m q d h =
         rw (← is, ne_eqb (get_or acquires o 0) 0 d, lt-leb e (get_or acquires o 0) h, q)
 
-    -- The latest listed acquire of the lock is an event, and its match stands in the table.
-    pub latest_matched : (matches : List ℕ) → get_or acquires (object σ e) 0 ≤ length σ
-        → ((f : ℕ) → 1 ≤ f → f ≤ length σ → get_or matches f 0 ≡ marked σ f) → get_or acquires o 0 ≢ 0
-        → (get_or acquires o 0 ≤ length σ)
-        × (get_or matches (get_or acquires o 0) 0 ≡ marked σ (get_or acquires o 0))
-    latest_matched matches small matching_at d =
-        let small = rw (← is) at small in (small, matching_at (get_or acquires o 0) (omega arith) small)
-
 -- The match of an event of the records is one of them, or 0.
 pub matching_in : (b : List ℕ) (e m : ℕ) → m ≡ marked (decode_all b) e → e ≤ length (decode_all b)
     → 2 * m ≤ length b
@@ -109,30 +102,18 @@ awaited_in b e q h = omega (arith, awaited_below (decode_all b) e)
 -- ---- one event more
 
 -- What the code answers for event e is the definition's answer, whatever is listed.
-abbrev pub Answers : Trace → List ℕ → List ℕ → List ℕ → ℕ → Bool → Type 0
-Answers σ last acquires writes e r =
-    (before : List ℕ) → Listed σ before last acquires writes → r ≡ may_follow σ before e
-
--- 0 and numbers past the end are not listed.
-pub asked-none : (b last acquires writes : List ℕ) (e : ℕ) → ((1 ≤ e) × (e ≤ length b / 2) → ⊥)
-    → Answers (decode_all b) last acquires writes e false
-asked-none b last acquires writes e n before z =
-    no_such_event (decode_all b) before e (λ h. n (omega (arith, decode_all-length b)))
-
--- An event that is not next may not follow.
-pub asked_later : (σ : Trace) → WellFormed σ → (last acquires writes : List ℕ) (e : ℕ)
-    → (1 ≤ e) × (e ≤ length σ) → is_next σ last e ≡ false → Answers σ last acquires writes e false
-asked_later σ ok last acquires writes e inside n before z =
-    not-next σ before last acquires writes z e inside ok n
+abbrev pub Answers : Trace → Progress → ℕ → Bool → Type 0
+Answers σ p e r =
+    (before : List ℕ) → Listed σ before p → r ≡ may_follow σ before e
 
 -- An event that is next, with its operation and mark as the code has read them.
-pub record Asked (σ : Trace) (last : List ℕ) (e op m : ℕ) : Type 0 where
+pub record Asked (σ : Trace) (p : Progress) (e op m : ℕ) : Type 0 where
   pub sound : WellFormed σ
   pub inside : (1 ≤ e) × (e ≤ length σ)
-  pub next : is_next σ last e ≡ true
+  pub next : is_next σ p.last e ≡ true
   pub mark : WithMark σ e op m
 
-module _ {σ : Trace} {last : List ℕ} {e op m : ℕ} (k : Asked σ last e op m) (acquires writes : List ℕ) where
+module _ {σ : Trace} {p : Progress} {e op m : ℕ} (k : Asked σ p e op m) where
   is_op : op ≡ (at σ e).op
   is_op = k.mark.op_is
 
@@ -141,35 +122,35 @@ module _ {σ : Trace} {last : List ℕ} {e op m : ℕ} (k : Asked σ last e op m
 
   -- A read may follow where the last listed write of its variable is its writer,
   pub asked_read : op ≡ 0 → (o w : ℕ) → (o < variables) × (o ≡ object σ e) → w ≡ awaited σ e
-      → Answers σ last acquires writes e (eqb (get_or writes o 0) w)
+      → Answers σ p e (eqb (get_or p.writes o 0) w)
   asked_read r o w is-object is-awaited before z =
       let read = is_read_op σ e is_op ∙ eq-eqb op 0 r in
       rw (is-object.1, is-awaited ∙ awaited_read σ e read)
-      (read_follows σ before last acquires writes z e k.inside k.sound k.next read
+      (read_follows σ before p z e k.inside k.sound k.next read
       (is_join-none σ e is_op (omega arith)) (is_acquire-none σ e is_op (omega arith)) (omega arith))
 
   -- an outer acquire where its lock is clear,
-  pub asked_acquire : op ≡ 2 → m ≢ e → (r : Bool) → r ≡ is_unlocked σ last acquires e
-      → Answers σ last acquires writes e r
+  pub asked_acquire : op ≡ 2 → m ≢ e → (r : Bool) → r ≡ is_unlocked σ p.last p.acquires e
+      → Answers σ p e r
   asked_acquire a d r is before z =
       let outer = marked_outer k.mark a d in
-      is ∙ acquire_follows σ before last acquires writes z e k.inside k.sound k.next
+      is ∙ acquire_follows σ before p z e k.inside k.sound k.next
       (unread (omega arith)) (is_join-none σ e is_op (omega arith)) outer
       (acquire_lt σ k.sound e (rw outer tt))
 
   -- a start or an inner acquire always,
-  pub asked_uncounted : op ≡ 2 → m ≡ e → Answers σ last acquires writes e true
+  pub asked_uncounted : op ≡ 2 → m ≡ e → Answers σ p e true
   unfolding is_ready
   asked_uncounted a q before z =
       let alone = joined-none σ e (is_join-none σ e is_op (omega arith)) in
-      let ready : is_ready σ last (joined σ e) ≡ true = rw alone in
-      sym ready ∙ other_follows σ before last acquires writes z e k.inside k.sound k.next
+      let ready : is_ready σ p.last (joined σ e) ≡ true = rw alone in
+      sym ready ∙ other_follows σ before p z e k.inside k.sound k.next
       (unread (omega arith)) (marked_uncounted k.mark a q)
 
   -- and another event where what it awaits is there.
-  pub asked_other : op ≢ 0 → op ≢ 2 → {w : ℕ} → w ≡ awaited σ e → {r : Bool} → r ≡ is_ready σ last w
-      → Answers σ last acquires writes e r
+  pub asked_other : op ≢ 0 → op ≢ 2 → {w : ℕ} → w ≡ awaited σ e → {r : Bool} → r ≡ is_ready σ p.last w
+      → Answers σ p e r
   asked_other d n q is before z =
       let same = q ∙ awaited_other σ e (unread d) in
-      is ∙ rw same (other_follows σ before last acquires writes z e k.inside k.sound k.next
+      is ∙ rw same (other_follows σ before p z e k.inside k.sound k.next
       (unread d) (is_acquire-none σ e is_op n))

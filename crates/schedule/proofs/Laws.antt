@@ -20,6 +20,7 @@ use Rattle.laws.proofs.Relations.{joined-none, matching_below}
 use Rattle.laws.proofs.Marks.{marked_acquire}
 use Rattle.laws.proofs.WellFormed.{WellFormed}
 use Rattle.laws.proofs.Schedule.{Prior, Started, Ended, may_follow_iff}
+use Rattle.schedule.specs.declared.Progress.{Progress}
 use Rattle.schedule.specs.Listed.{UpTo, Acquired, Listed}
 use Rattle.schedule.specs.Next.{is_listed, is_ready, is_next, is_unlocked}
 use Rattle.schedule.proofs.Tasks.{is_listed_iff, next_iff, ended_iff}
@@ -93,24 +94,24 @@ no_such_event σ before e n =
     sym (is_false (may_follow σ before e)
     (not_T (may_follow σ before e) (λ t. n ((is_event_iff σ e).0 ((may_follow_iff σ before e).0 t).event))))
 
-module _ (σ : Trace) (before last acquires writes : List ℕ) (z : Listed σ before last acquires writes) (e : ℕ)
+module _ (σ : Trace) (before : List ℕ) (p : Progress) (z : Listed σ before p) (e : ℕ)
     (inside : (1 ≤ e) × (e ≤ length σ)) (ok : WellFormed σ) where
-  next : T (is_next σ last e) ↔ ((Memᴰ e before → ⊥) × Prior σ e (λ f. Memᴰ f before)
+  next : T (is_next σ p.last e) ↔ ((Memᴰ e before → ⊥) × Prior σ e (λ f. Memᴰ f before)
       × Started σ e (λ f. Memᴰ f before))
-  next = next_iff σ before last z.up_to ok e inside.0 inside.1
+  next = next_iff σ before p.last z.up_to ok e inside.0 inside.1
 
-  ends : T (is_ready σ last (joined σ e)) ↔ Ended σ e (λ f. Memᴰ f before)
-  ends = ended_iff σ before last z.up_to ok e inside.0 inside.1
+  ends : T (is_ready σ p.last (joined σ e)) ↔ Ended σ e (λ f. Memᴰ f before)
+  ends = ended_iff σ before p.last z.up_to ok e inside.0 inside.1
 
   -- An event that does not come next in its task may not follow.
-  pub not-next : is_next σ last e ≡ false → false ≡ may_follow σ before e
+  pub not-next : is_next σ p.last e ≡ false → false ≡ may_follow σ before e
   not-next n = sym (is_false (may_follow σ before e) (not_T (may_follow σ before e) (λ t.
       let m = (may_follow_iff σ before e).0 t in rw n at (next.1 (m.fresh, m.ordered, m.started)))))
 
-  module _ (n : is_next σ last e ≡ true) where
+  module _ (n : is_next σ p.last e ≡ true) where
     -- One that does may, where it reads, waits and locks as it should.
     may_follow_lem : (T (is_read σ e) → latest_write σ e before ≡ writer σ e)
-        → T (is_ready σ last (joined σ e))
+        → T (is_ready σ p.last (joined σ e))
         → (T (is_acquire σ e) → Clear σ before e) → T (may_follow σ before e)
     may_follow_lem reads ready clear =
         let (fresh, ordered, started) = next.0 (rw n tt) in
@@ -126,35 +127,36 @@ module _ (σ : Trace) (before last acquires writes : List ℕ) (z : Listed σ be
         })
 
     -- What joins no task waits for nothing.
-    alone : is_join σ e ≡ false → T (is_ready σ last (joined σ e))
+    alone : is_join σ e ≡ false → T (is_ready σ p.last (joined σ e))
     unfolding is_ready
     alone j = rw (joined-none σ e j) tt
 
     -- A read may where the last listed write of its variable is its writer.
     pub read_follows : is_read σ e ≡ true → is_join σ e ≡ false → is_acquire σ e ≡ false
         → object σ e < variables
-        → eqb (get_or writes (object σ e) 0) (writer σ e) ≡ may_follow σ before e
-    read_follows r j a b = T-ext (eqb (get_or writes (object σ e) 0) (writer σ e)) (may_follow σ before e)
-        (λ t. may_follow_lem (λ _. z.written.last e b ∙ eqb→eq (get_or writes (object σ e) 0) (writer σ e) t)
+        → eqb (get_or p.writes (object σ e) 0) (writer σ e) ≡ may_follow σ before e
+    read_follows r j a b = T-ext (eqb (get_or p.writes (object σ e) 0) (writer σ e)) (may_follow σ before e)
+        (λ t. may_follow_lem
+        (λ _. z.written.last e b ∙ eqb→eq (get_or p.writes (object σ e) 0) (writer σ e) t)
         (alone j) (λ h. absurd (rw a at h)))
-        (λ t. eq→eqb (get_or writes (object σ e) 0) (writer σ e)
+        (λ t. eq→eqb (get_or p.writes (object σ e) 0) (writer σ e)
         (sym (z.written.last e b) ∙ ((may_follow_iff σ before e).0 t).reads (rw r tt)))
 
     module _ (r : is_read σ e ≡ false) where
       -- An acquire may where its lock is clear.
       pub acquire_follows : is_join σ e ≡ false → is_acquire σ e ≡ true → object σ e < locks
-          → is_unlocked σ last acquires e ≡ may_follow σ before e
+          → is_unlocked σ p.last p.acquires e ≡ may_follow σ before e
       acquire_follows j a b =
-          let rule = is_unlocked_iff σ before last acquires z.up_to z.acquired e b in
-          T-ext (is_unlocked σ last acquires e) (may_follow σ before e)
+          let rule = is_unlocked_iff σ before p.last p.acquires z.up_to z.acquired e b in
+          T-ext (is_unlocked σ p.last p.acquires e) (may_follow σ before e)
           (λ t. may_follow_lem (λ h. absurd (rw r at h)) (alone j) (λ _. rule.0 t))
           (λ t.
           let m = (may_follow_iff σ before e).0 t in
           rule.1 (λ f i s. (m.free (rw a tt) f i s, m.locked (rw a tt) f i s)))
 
       -- Another event may where what it waits for is there.
-      pub other_follows : is_acquire σ e ≡ false → is_ready σ last (joined σ e) ≡ may_follow σ before e
+      pub other_follows : is_acquire σ e ≡ false → is_ready σ p.last (joined σ e) ≡ may_follow σ before e
       other_follows a =
-          T-ext (is_ready σ last (joined σ e)) (may_follow σ before e)
+          T-ext (is_ready σ p.last (joined σ e)) (may_follow σ before e)
           (λ t. may_follow_lem (λ h. absurd (rw r at h)) t (λ h. absurd (rw a at h)))
           (λ t. ends.1 ((may_follow_iff σ before e).0 t).ended)

@@ -23,14 +23,19 @@ use Rattle.laws.proofs.WellFormed.{WellFormed, acquire_lt}
 use Rattle.laws.proofs.Operations.{is_write_op, is_acquire-none}
 use Rattle.laws.proofs.Marks.{WithMark, marked_outer}
 use Rattle.laws.proofs.Schedule.{MayFollow, may_follow_iff}
+use Rattle.schedule.specs.declared.Progress.{Progress}
 use Rattle.schedule.specs.Listed.{UpTo, Acquired, Written, Listed}
 use Rattle.schedule.proofs.Tasks.{listed_iff}
 use Rattle.schedule.proofs.Laws.{Clear}
 
 -- ---- the start
 
--- Where nothing is listed, the tables are clear.
-pub listed_start : (σ : Trace) → Listed σ [] (replicate tasks 0) (replicate locks 0) (replicate variables 0)
+-- The tables where nothing is listed.
+abbrev pub empty : Progress
+empty = record { last = replicate tasks 0; acquires = replicate locks 0; writes = replicate variables 0 }
+
+-- They are clear.
+pub listed_start : (σ : Trace) → Listed σ [] empty
 unfolding latest_write
 listed_start σ = record {
   up_to = record {
@@ -187,11 +192,10 @@ module _ (σ : Trace) (before writes : List ℕ) (z : Written σ before writes) 
 
 -- ---- the three tables
 
--- Listing event e brings the tables from the first three to the last three, whatever is listed.
-abbrev pub Notes : Trace → ℕ → List ℕ → List ℕ → List ℕ → List ℕ → List ℕ → List ℕ → Type 0
-Notes σ e last acquires writes last' acquires' writes' =
-    (before : List ℕ) → Listed σ before last acquires writes → T (may_follow σ before e)
-    → Listed σ (e ∷ before) last' acquires' writes'
+-- Listing event e brings the tables from the first to the second, whatever is listed.
+abbrev pub Notes : Trace → ℕ → Progress → Progress → Type 0
+Notes σ e p p' =
+    (before : List ℕ) → Listed σ before p → T (may_follow σ before e) → Listed σ (e ∷ before) p'
 
 -- An event as the code has unpacked it, with its mark.
 pub record Noted (σ : Trace) (e op t o m : ℕ) : Type 0 where
@@ -199,37 +203,37 @@ pub record Noted (σ : Trace) (e op t o m : ℕ) : Type 0 where
   pub event : Unpacked σ e op t o
   pub mark : WithMark σ e op m
 
-module _ {σ : Trace} {e op t o m : ℕ} (k : Noted σ e op t o m) (last acquires writes : List ℕ) where
-  latest : (before : List ℕ) → Listed σ before last acquires writes → T (may_follow σ before e)
-      → UpTo σ (e ∷ before) (set last t e)
+module _ {σ : Trace} {e op t o m : ℕ} (k : Noted σ e op t o m) (p : Progress) where
+  latest : (before : List ℕ) → Listed σ before p → T (may_follow σ before e)
+      → UpTo σ (e ∷ before) (set p.last t e)
   latest before z may =
-      rw k.event.task_is.1 (up_to-next σ before last z.up_to e ((may_follow_iff σ before e).0 may)
+      rw k.event.task_is.1 (up_to-next σ before p.last z.up_to e ((may_follow_iff σ before e).0 may)
       (omega (arith, k.event.task_is)))
 
-  unwritten : op ≢ 1 → (before : List ℕ) → Listed σ before last acquires writes
-      → Written σ (e ∷ before) writes
+  unwritten : op ≢ 1 → (before : List ℕ) → Listed σ before p
+      → Written σ (e ∷ before) p.writes
   unwritten d before z =
-      written_keep σ before writes z.written e (is_write_op σ e k.mark.op_is ∙ ne_eqb op 1 d)
+      written_keep σ before p.writes z.written e (is_write_op σ e k.mark.op_is ∙ ne_eqb op 1 d)
 
   -- A write is the latest event of its task and the last write of its variable.
-  pub write_noted : op ≡ 1 → Notes σ e last acquires writes (set last t e) acquires (set writes o e)
+  pub write_noted : op ≡ 1 → Notes σ e p (record p { last = set p.last t e; writes = set p.writes o e })
   write_noted w before z may = record {
     up_to = latest before z may;
-    acquired = acquired_keep σ before acquires z.acquired e
+    acquired = acquired_keep σ before p.acquires z.acquired e
         (is_acquire-none σ e k.mark.op_is (omega arith));
-    written = rw k.event.object_is.1 (written_next σ before writes z.written e
+    written = rw k.event.object_is.1 (written_next σ before p.writes z.written e
         (is_write_op σ e k.mark.op_is ∙ eq-eqb op 1 w));
   }
 
   -- An outer acquire is that of its task, and the latest acquire of its lock.
   pub acquire_noted : op ≡ 2 → m ≢ e
-      → Notes σ e last acquires writes (set last t e) (set acquires o e) writes
+      → Notes σ e p (record p { last = set p.last t e; acquires = set p.acquires o e })
   acquire_noted a d before z may = record {
     up_to = latest before z may;
     acquired =
         let h : T (is_acquire σ e) = rw (marked_outer k.mark a d) tt in
         let follows = (may_follow_iff σ before e).0 may in
-        rw k.event.object_is.1 (acquired-next σ before acquires z.acquired e h
+        rw k.event.object_is.1 (acquired-next σ before p.acquires z.acquired e h
         (acquire_lt σ k.sound e h)
         (λ f i s. (follows.free h f i s, follows.locked h f i s)));
     written = unwritten (omega arith) before z;
@@ -237,9 +241,9 @@ module _ {σ : Trace} {e op t o m : ℕ} (k : Noted σ e op t o m) (last acquire
 
   -- Another event is that of its task.
   pub other_noted : op ≢ 1 → is_acquire σ e ≡ false
-      → Notes σ e last acquires writes (set last t e) acquires writes
+      → Notes σ e p (record p { last = set p.last t e })
   other_noted d n before z may = record {
     up_to = latest before z may;
-    acquired = acquired_keep σ before acquires z.acquired e n;
+    acquired = acquired_keep σ before p.acquires z.acquired e n;
     written = unwritten d before z;
   }

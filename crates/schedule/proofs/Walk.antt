@@ -1,38 +1,33 @@
 -- The walk through a schedule: what is listed so far, and that the rest decides. Assumes nothing.
 use Prim.Native.Nat.{ℕ, suc, ◌+◌, ◌*◌, ◌/◌, ◌≤◌, ◌<◌}
 use mathlib.Core.Path.{◌≡◌, refl, sym, ◌∙◌}
-use mathlib.Core.Logic.{⊎_elim}
-use mathlib.Core.Bool.{Bool, true, false, ◌||◌, or-false, true≢false}
+use mathlib.Core.Bool.{Bool, true, false, ◌||◌, or-false}
 use mathlib.Core.List.{List, [], ◌∷◌, Memᴰ}
 use native.Mathlib.Numerals.{add-one}
 use native.Mathlib.Omega.{arith}
 use lib.Dec.{T, eqb}
-use lib.ListN.{length, get_or, drop, replicate, drop_of_length-le}
+use lib.ListN.{length, get_or, drop, drop_of_length-le}
 use lib.Seq.{drop-cons}
 use Rattle.model.specs.Lists.{member}
-use Rattle.model.specs.Trace.{Trace, tasks, locks, variables}
+use Rattle.model.specs.Trace.{Trace}
 use Rattle.model.specs.Recording.{decode_all}
 use Rattle.model.specs.Bytes.{numbers}
 use Rattle.model.specs.Schedule.{may_follow, continues, sync_preserving}
-use Rattle.laws.proofs.Tests.{equal?}
 use Rattle.laws.proofs.Lists.{member_iff}
 use Rattle.laws.proofs.Bytes.{numbers-length}
 use Rattle.laws.proofs.Trace.{decode_all-length, is_event_iff}
 use Rattle.laws.proofs.Schedule.{may_follow_iff}
-use Rattle.schedule.specs.Listed.{UpTo, Listed, Ready}
+use Rattle.schedule.specs.declared.Progress.{Progress}
+use Rattle.schedule.specs.Listed.{UpTo, Listed, Kept}
 use Rattle.schedule.proofs.Asking.{Answers}
-use Rattle.schedule.proofs.Noting.{listed_start, Notes}
+use Rattle.schedule.proofs.Noting.{empty, listed_start, Notes}
 
 -- The walk has come to number i of the schedule. The rest decides; with what is listed it is the schedule.
-pub record Walking (σ : Trace) (ρ : List ℕ) (i : ℕ) (last acquires writes : List ℕ) : Type 0 where
+pub record Walking (σ : Trace) (ρ : List ℕ) (i : ℕ) (p : Progress) : Type 0 where
   pub before : List ℕ
-  pub tables : Listed σ before last acquires writes
+  pub tables : Listed σ before p
   pub decides : continues σ before (drop i ρ) ≡ sync_preserving σ ρ
   pub covers : (e : ℕ) → (member e before || member e (drop i ρ)) ≡ member e ρ
-
--- What the walk answers, and the table of tasks that it leaves.
-abbrev Decided : Trace → List ℕ → List ℕ → Bool → Type 0
-Decided σ ρ last r = (r ≡ sync_preserving σ ρ) × (r ≡ true → UpTo σ ρ last)
 
 or-shift : (a b c : Bool) → ((a || b) || c) ≡ (b || (a || c))
 or-shift true true c = refl
@@ -55,18 +50,6 @@ up_to_ext σ ρ ρ' last same u = record {
     back : (e : ℕ) → Memᴰ e ρ' → Memᴰ e ρ
     back e m = (member_iff e ρ).0 (rw (same e) ((member_iff e ρ').1 m))
 
--- The indices that the code takes from the tables are in range.
-pub listed_ready : {σ : Trace} {before last acquires writes : List ℕ} → Listed σ before last acquires writes
-    → Ready σ last acquires writes
-listed_ready {acquires = acquires} z = record {
-  last_long = z.up_to.front.long;
-  acquire_long = z.acquired.long;
-  write_long = z.written.long;
-  acquire_small = λ l h. ⊎_elim (λ q. omega arith)
-      (λ d. (z.up_to.event (get_or acquires l 0) (z.acquired.listed l h d).0).1)
-      (equal? (get_or acquires l 0) 0);
-}
-
 -- What may follow is one of the records.
 pub follows_in : (b before : List ℕ) (e : ℕ) → T (may_follow (decode_all b) before e)
     → (1 ≤ e) × (2 * e ≤ length b)
@@ -78,22 +61,20 @@ follows_in b before e t =
     )
 
 -- At the start nothing is listed.
-pub walking_start : (σ : Trace) (ρ last : List ℕ) → last ≡ replicate tasks 0
-    → Walking σ ρ 0 last (replicate locks 0) (replicate variables 0)
+pub walking_start : (σ : Trace) (ρ : List ℕ) → Walking σ ρ 0 empty
 unfolding sync_preserving
-walking_start σ ρ last q =
-    rw q (record { before = []; tables = listed_start σ; decides = refl; covers = λ e. refl })
+walking_start σ ρ = record { before = []; tables = listed_start σ; decides = refl; covers = λ e. refl }
 
 -- A turn of the walk: number e stands at i, and r is answered for it.
-pub record Turn (σ : Trace) (s : List ℕ) (i : ℕ) (last acquires writes : List ℕ) (e : ℕ) (r : Bool)
+pub record Turn (σ : Trace) (s : List ℕ) (i : ℕ) (p : Progress) (e : ℕ) (r : Bool)
     : Type 0 where
-  pub walking : Walking σ (numbers s) i last acquires writes
+  pub walking : Walking σ (numbers s) i p
   pub here : i < length s / 2
   pub number : e ≡ get_or (numbers s) i 0
-  pub answers : Answers σ last acquires writes e r
+  pub answers : Answers σ p e r
 
-module _ {σ : Trace} {s : List ℕ} {i : ℕ} {last acquires writes : List ℕ} {e : ℕ} {r : Bool}
-    (k : Turn σ s i last acquires writes e r) where
+module _ {σ : Trace} {s : List ℕ} {i : ℕ} {p : Progress} {e : ℕ} {r : Bool}
+    (k : Turn σ s i p e r) where
   rest : drop i (numbers s) ≡ e ∷ drop (suc i) (numbers s)
   rest = rw k.number (drop-cons (numbers s) i 0 (omega (arith, k.here, numbers-length s)))
 
@@ -101,23 +82,18 @@ module _ {σ : Trace} {s : List ℕ} {i : ℕ} {last acquires writes : List ℕ}
   answer = k.answers k.walking.before k.walking.tables
 
   -- A number that may not follow decides.
-  pub walking_stop : r ≡ false → (last' : List ℕ) → Decided σ (numbers s) last' false
+  pub walking_stop : r ≡ false → sync_preserving σ (numbers s) ≡ false
   unfolding continues
-  walking_stop n last' = (
-    rw (rest, ← answer, n) at k.walking.decides,
-    λ q. absurd (true≢false (sym q)),
-  )
+  walking_stop n = sym (rw (rest, ← answer, n) at k.walking.decides)
 
   -- One that may,
   pub walking_may : r ≡ true → T (may_follow σ k.walking.before e)
   walking_may y = rw (← answer, y) tt
 
   -- is listed.
-  pub walking-next : r ≡ true → (last' acquires' writes' : List ℕ)
-      → Notes σ e last acquires writes last' acquires' writes'
-      → Walking σ (numbers s) (i + 1) last' acquires' writes'
+  pub walking-next : r ≡ true → (p' : Progress) → Notes σ e p p' → Walking σ (numbers s) (i + 1) p'
   unfolding continues
-  walking-next y last' acquires' writes' notes =
+  walking-next y p' notes =
       let before = k.walking.before in
       rw (add-one i) (record {
         before = e ∷ before;
@@ -127,15 +103,15 @@ module _ {σ : Trace} {s : List ℕ} {i : ℕ} {last acquires writes : List ℕ}
             ∙ (rw rest at (k.walking.covers f));
       })
 
-module _ (σ : Trace) (s : List ℕ) (i : ℕ) (last acquires writes : List ℕ)
-    (w : Walking σ (numbers s) i last acquires writes) where
+module _ (σ : Trace) (s : List ℕ) (i : ℕ) (p : Progress)
+    (w : Walking σ (numbers s) i p) where
   -- After the last number the schedule is order-keeping, and the table of tasks says what it lists.
-  pub walking_end : length s / 2 ≤ i → Decided σ (numbers s) last true
+  pub walking_end : length s / 2 ≤ i → Kept σ (numbers s) p
   unfolding continues
-  walking_end h = (
-    rw none at w.decides,
-    λ _. up_to_ext σ w.before (numbers s) last same w.tables.up_to,
-  )
+  walking_end h = record {
+    keeps = sym (rw none at w.decides);
+    up_to = up_to_ext σ w.before (numbers s) p.last same w.tables.up_to;
+  }
     where
       none : drop i (numbers s) ≡ []
       none = drop_of_length-le (numbers s) {i = i} (omega (arith, numbers-length s))

@@ -1,12 +1,11 @@
 -- What the two walks answer together is whether the schedule witnesses the pattern. Assumes nothing.
 use Prim.Native.Nat.{ℕ, ◌%◌}
 use mathlib.Core.Path.{◌≡◌}
-use mathlib.Core.Logic.{◌≢◌}
-use mathlib.Core.Bool.{Bool, true, false, ◌&&◌}
+use mathlib.Core.Bool.{Bool, false, ◌&&◌}
 use mathlib.Core.List.{List, Memᴰ}
 use lib.Dec.{T}
 use lib.ListN.{length}
-use borrow.Author.Tests.{eq-eqb, ne_eqb}
+use borrow.Author.Tests.{eq-eqb}
 use Rattle.model.specs.Lists.{all}
 use Rattle.model.specs.Trace.{is_event}
 use Rattle.model.specs.Recording.{decode_all}
@@ -16,7 +15,8 @@ use Rattle.model.specs.Calls.Check.{check_events}
 use Rattle.laws.proofs.Lists.{all_iff, all_ext}
 use Rattle.laws.proofs.Trace.{is_event_iff}
 use Rattle.laws.proofs.Questions.{events_sound}
-use Rattle.schedule.specs.Listed.{UpTo}
+use Rattle.schedule.specs.declared.Progress.{Progress}
+use Rattle.schedule.specs.Listed.{UpTo, Kept}
 use Rattle.schedule.specs.Next.{is_next}
 use Rattle.schedule.proofs.Tasks.{enabled-next}
 
@@ -37,21 +37,17 @@ module _ (b s p : List ℕ) where
   abbrev pub Whole : Bool → Type 0
   Whole r = r ≡ (is_whole s && witnesses (decode_all b) (numbers s) (numbers p))
 
-  -- An odd byte.
-  pub witness_odd : length s % 2 ≢ 0 → Whole false
-  witness_odd d = rw (ne_eqb (length s % 2) 0 d)
-
-  module _ (even : length s % 2 ≡ 0) (r : Bool) (keeps : r ≡ sync_preserving (decode_all b) (numbers s)) where
+  module _ (even : length s % 2 ≡ 0) where
     -- A schedule that is not order-keeping.
-    pub witness_refused : r ≡ false → Whole false
+    pub witness_refused : sync_preserving (decode_all b) (numbers s) ≡ false → Whole false
     unfolding witnesses
-    witness_refused n = rw (eq-eqb (length s % 2) 0 even, ← keeps, n)
+    witness_refused n = rw (eq-eqb (length s % 2) 0 even, n)
 
     -- One that is: the pattern decides.
-    pub witness_decided : r ≡ true → (check_events (decode_all b)).refusal ≡ 0 → (last : List ℕ)
-        → UpTo (decode_all b) (numbers s) last → T (all (is_event (decode_all b)) (numbers p))
-        → Whole (all (is_next (decode_all b) last) (numbers p))
+    pub witness_decided : (check_events (decode_all b)).refusal ≡ 0 → {p' : Progress}
+        → Kept (decode_all b) (numbers s) p' → T (all (is_event (decode_all b)) (numbers p))
+        → Whole (all (is_next (decode_all b) p'.last) (numbers p))
     unfolding witnesses
-    witness_decided y accepted last u events =
-        rw (eq-eqb (length s % 2) 0 even, ← keeps, y)
-        (next-enabled b (numbers s) last (numbers p) accepted u events)
+    witness_decided accepted {p'} k events =
+        rw (eq-eqb (length s % 2) 0 even, k.keeps)
+        (next-enabled b (numbers s) p'.last (numbers p) accepted k.up_to events)

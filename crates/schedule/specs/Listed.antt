@@ -1,16 +1,17 @@
 -- The tables of a walk through a schedule, by what they hold of what is listed, and what is decided of the
 -- lent bytes. `before` is what is listed, the latest first.
-use Rattle.std.specs.Prelude.{ℕ, ◌≤◌, ◌<◌, ◌≡◌, ◌≢◌, Bool, cond, ◌&&◌, Option, Some, None, T, leb, length}
-use Rattle.std.specs.Prelude.{get_or}
+use Rattle.std.specs.Prelude.{ℕ, ◌≤◌, ◌<◌, ◌≡◌, ◌≢◌, Bool, true, cond, ◌&&◌, Option, Some, None, T, leb}
+use Rattle.std.specs.Prelude.{length, get_or}
 use mathlib.Core.List.{List, Memᴰ}
 use Rattle.model.specs.Lists.{member}
 use Rattle.model.specs.Bytes.{numbers, is_whole}
-use Rattle.model.specs.Trace.{Trace, tasks, locks, variables, task, object, is_acquire}
+use Rattle.model.specs.Trace.{Trace, locks, variables, task, object, is_acquire}
 use Rattle.model.specs.Tasks.{starts}
 use Rattle.model.specs.Relations.{matching}
 use Rattle.model.specs.Pattern.{is_pattern}
-use Rattle.model.specs.Schedule.{latest_write, witnesses}
+use Rattle.model.specs.Schedule.{latest_write, sync_preserving, witnesses}
 use Rattle.laws.specs.Frontier.{Frontier}
+use Rattle.schedule.specs.declared.Progress.{Progress}
 
 -- For each task the latest listed event, or 0: its listed events are those up to there, and its start is
 -- listed with them.
@@ -35,18 +36,16 @@ pub record Written (σ : Trace) (before writes : List ℕ) : Type 0 where
   pub long : length writes ≡ variables
   pub last : (e : ℕ) → object σ e < variables → latest_write σ e before ≡ get_or writes (object σ e) 0
 
--- The three tables of what is listed.
-pub record Listed (σ : Trace) (before last acquires writes : List ℕ) : Type 0 where
-  pub up_to : UpTo σ before last
-  pub acquired : Acquired σ before acquires
-  pub written : Written σ before writes
+-- What the walk keeps is what is listed.
+pub record Listed (σ : Trace) (before : List ℕ) (progress : Progress) : Type 0 where
+  pub up_to : UpTo σ before progress.last
+  pub acquired : Acquired σ before progress.acquires
+  pub written : Written σ before progress.writes
 
--- The three tables, as far as the code asks that its indices are in range.
-pub record Ready (σ : Trace) (last acquires writes : List ℕ) : Type 0 where
-  pub last_long : length last ≡ tasks
-  pub acquire_long : length acquires ≡ locks
-  pub write_long : length writes ≡ variables
-  pub acquire_small : (l : ℕ) → l < locks → get_or acquires l 0 ≤ length σ
+-- The schedule is order-keeping, and of each task what is kept is its latest event in the schedule.
+pub record Kept (σ : Trace) (ρ : List ℕ) (progress : Progress) : Type 0 where
+  pub keeps : sync_preserving σ ρ ≡ true
+  pub up_to : UpTo σ ρ progress.last
 
 -- What is decided of the bytes of a pattern and a schedule: the checker's answer, or none for no pattern
 -- (question 10 is answered "no").

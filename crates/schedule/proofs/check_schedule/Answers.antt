@@ -1,10 +1,8 @@
 -- `schedule::check_schedule` meets its contract: the recording's questions, then what is decided.
 -- Assumes nothing.
 use mathlib.Core.Path.{◌≡◌, sym}
-use borrow.Author.Rules.{rules}
 use Rattle.model.specs.Calls.Check.{check}
 use Rattle.laws.proofs.Results.{passed_on, is_refused, is_passed}
-use Rattle.laws.proofs.Questions.{check_bytes, part-trace, part_small, part_accepted}
 use Rattle.schedule.proofs.Answers.{checked_unchecked, checked_accepted}
 use Rattle.schedule.proofs.check_schedule.Goals as goal
 use Rattle.schedule.proofs.check_schedule.Goals.{In_ok-check}
@@ -20,22 +18,9 @@ returns-in_err-check c =
     rw (passed_on c.from_residual.result _ c.from_residual.ensures.1)
     (sym (rw (← q) at (checked_unchecked a.recording.now a.pattern.now a.schedule.now (is_refused _ _ q))))
 
-pub slice_bounds-judge-count : goal.slice_bounds-judge-count
-slice_bounds-judge-count c =
-    (check_bytes c.args.recording.now (accepted (goal.at.slice_bounds-judge-count c).In_ok-check)).0
-
-pub slice_bounds-judge-start : goal.slice_bounds-judge-start
-slice_bounds-judge-start c =
-    let h = (check_bytes _ (accepted (goal.at.slice_bounds-judge-start c).In_ok-check)).0 in search rules
-
-pub judge-requires : goal.judge-requires
-judge-requires c =
-    let b = c.args.recording.now in
-    let ok = accepted (goal.at.judge-requires c).In_ok-check in
-    (part_small b ok (c.type_inv.recording 1).fits, part_accepted b ok)
-
 pub returns : goal.returns
 returns c =
-    let b = c.args.recording.now in
-    rw (c.ok_or.ensures.value, c.into.ensures, rw (part-trace b) at c.judge.ensures)
-    (checked_accepted b c.args.pattern.now c.args.schedule.now (accepted (goal.at.returns c).In_ok-check))
+    let is = rw c.read.ensures.events at c.decide.ensures in
+    rw (c.ok_or.ensures.value, c.into.ensures, is)
+    (checked_accepted c.args.recording.now c.args.pattern.now c.args.schedule.now
+    (accepted (goal.at.returns c).In_ok-check))

@@ -1,9 +1,7 @@
 -- `schedule::keeps_order` meets its contract: before each number the tables hold what is listed, and the rest
 -- of the schedule decides. Assumes nothing.
-use native.Mathlib.Omega.{arith}
 use Rattle.model.specs.Recording.{decode_all}
-use Rattle.laws.proofs.Trace.{record-event}
-use Rattle.schedule.proofs.Walk.{Turn, listed_ready, follows_in, walking_start}
+use Rattle.schedule.proofs.Walk.{Turn, follows_in, walking_start}
 use Rattle.schedule.proofs.Walk.{walking_stop, walking_may, walking-next, walking_end}
 use Rattle.schedule.proofs.keeps_order.Goals as goal
 use Rattle.schedule.proofs.keeps_order.Goals.{After-follows}
@@ -12,8 +10,7 @@ use Rattle.schedule.proofs.keeps_order.Goals.{After-follows}
 asked : (c : goal.After-follows)
     → let a = c.args in
     let l = c.loop-i in
-    Turn (decode_all a.records.now) a.schedule.now l.i l.last l.acquires l.writes
-    c.number-e.result c.follows.result
+    Turn (decode_all a.trace.now.records.now) a.schedule.now l.i l.progress c.number-e.result c.follows.result
 asked c = record {
   walking = c.loop-i.invariant;
   here = c.loop-i-test.true;
@@ -22,32 +19,23 @@ asked c = record {
 }
 
 pub loop-i-init : goal.loop-i-init
-loop-i-init c =
-    walking_start _ _ _ c.requires.3
+loop-i-init c = walking_start _ _
 
 pub returns-then-not-follows : goal.returns-then-not-follows
 returns-then-not-follows c =
-    walking_stop (asked (goal.at.returns-then-not-follows c).After-follows) (c.if-not-follows.true) _
+    walking_stop (asked (goal.at.returns-then-not-follows c).After-follows) c.if-not-follows.true
 
 pub note-requires : goal.note-requires
 note-requires c =
     let k = asked (goal.at.note-requires c).After-follows in
-    let may = walking_may k (c.if-not-follows.false) in
-    let (h, j) = follows_in c.args.records.now _ _ may in (
-      h,
-      j,
-      omega (arith, j, c.requires.0, c.requires.2.reading.matching_long),
-      c.requires.2.reading.matching_at _ h (record-event c.args.records.now _ (h, j)).1,
-      c.requires.1,
-      listed_ready k.walking.tables,
-    )
+    follows_in c.args.trace.now.records.now _ _ (walking_may k c.if-not-follows.false)
 
 pub loop-i-preserved : goal.loop-i-preserved
 loop-i-preserved c =
-    walking-next (asked (goal.at.loop-i-preserved c).After-follows) c.if-not-follows.false _ _ _
+    walking-next (asked (goal.at.loop-i-preserved c).After-follows) c.if-not-follows.false _
     c.note.ensures
 
 pub returns : goal.returns
 returns c =
     let l = c.loop-i in
-    walking_end _ c.args.schedule.now l.i _ _ _ l.invariant c.loop-i-test.false
+    walking_end _ c.args.schedule.now l.i _ l.invariant c.loop-i-test.false

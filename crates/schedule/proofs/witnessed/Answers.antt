@@ -4,18 +4,15 @@ use mathlib.Core.Path.{◌∙◌}
 use Rattle.schedule.proofs.Witness.{witness_refused, witness_decided}
 use Rattle.schedule.proofs.witnessed.Goals as goal
 
-pub returns-then-not-keeps_order : goal.returns-then-not-keeps_order
-returns-then-not-keeps_order c =
+pub returns-in-None : goal.returns-in-None
+returns-in-None c =
     let a = c.args in
-    let refused = c.if-not-keeps_order.true in
-    witness_refused a.records.now a.schedule.now a.pattern.now
-    c.if-schedule-ne0.false _ c.keeps_order.ensures.0 refused
+    witness_refused a.trace.now.records.now a.schedule.now a.pattern.now c.if-schedule-ne0.false
+    c.in-None.ensures
 
-pub returns : goal.returns
-returns c =
+pub returns-in-Some : goal.returns-in-Some
+returns-in-Some c =
     let a = c.args in
-    let kept = c.if-not-keeps_order.false in
     c.leaves_next.ensures
-    ∙ witness_decided a.records.now a.schedule.now a.pattern.now c.if-schedule-ne0.false _
-    c.keeps_order.ensures.0 kept c.requires.1 _
-    (c.keeps_order.ensures.1 kept) c.requires.3
+    ∙ witness_decided a.trace.now.records.now a.schedule.now a.pattern.now c.if-schedule-ne0.false
+    a.trace.now.accepted c.in-Some.ensures c.requires

@@ -1,7 +1,7 @@
 -- `schedule::is_listed` meets its contract: each return cites the law of its case. Assumes nothing.
 use borrow.Author.Tests.{eq-eqb}
 use Rattle.schedule.proofs.Asking.{listed-none, listed_some}
-use Rattle.schedule.proofs.is_listed.Goals as goal
+use Rattle.schedule.proofs.Progress.is_listed.Goals as goal
 
 pub returns-then-e-ne0 : goal.returns-then-e-ne0
 returns-then-e-ne0 c = listed_some _ _ c.args.e _ c.task.ensures.1 c.if-e-ne0.true

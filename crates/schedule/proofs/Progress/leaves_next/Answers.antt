@@ -4,14 +4,14 @@ use native.Mathlib.Omega.{arith}
 use Rattle.model.specs.Bytes.{numbers}
 use Rattle.laws.proofs.Bytes.{numbers-length, numbers_inside}
 use Rattle.laws.proofs.Passing.{listed-event, passing_stop, passing_end}
-use Rattle.schedule.proofs.leaves_next.Goals as goal
+use Rattle.schedule.proofs.Progress.leaves_next.Goals as goal
 
 pub is_next-requires : goal.is_next-requires
 is_next-requires c =
-    let (h, k, j) = listed-event c.args.records.now (numbers c.args.pattern.now)
-    c.loop-i.i c.requires.3 (numbers_inside c.args.pattern.now
-    c.loop-i-test.true) c.number.ensures in
-    (h, j, c.requires.0, c.requires.1, c.requires.2, c.requires.4 _ h k)
+    let p = c.args.pattern.now in
+    let (h, k, j) = listed-event c.args.trace.now.records.now (numbers p) c.loop-i.i c.requires
+    (numbers_inside p c.loop-i-test.true) c.number.ensures in
+    (h, j)
 
 pub returns-then-not-is_next : goal.returns-then-not-is_next
 returns-then-not-is_next c =

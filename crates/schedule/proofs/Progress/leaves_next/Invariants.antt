@@ -4,7 +4,7 @@ use Rattle.model.specs.Recording.{decode_all}
 use Rattle.model.specs.Bytes.{numbers}
 use Rattle.laws.proofs.Passing.{Passing}
 use Rattle.schedule.specs.Next.{is_next}
-use Rattle.schedule.proofs.leaves_next.Given as goal
+use Rattle.schedule.proofs.Progress.leaves_next.Given as goal
 
 abbrev pub invariant-loop-i : goal.invariant-loop-i
-invariant-loop-i l = Passing (is_next (decode_all l.records) l.last) (numbers l.pattern) l.i
+invariant-loop-i l = Passing (is_next (decode_all l.trace.records.now) l.self.last) (numbers l.pattern) l.i
