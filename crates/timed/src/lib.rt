@@ -4,19 +4,17 @@
 #![tactic(auto)]
 
 ghost use Rattle.std.specs.Prelude.{◌<◌, ◌≤◌, ◌≡◌, cond, length};
-ghost use Rattle.model.specs.Recording.{decode_all};
 ghost use Rattle.model.specs.Calls.Questions.{is_accepted};
-ghost use Rattle.model.specs.Calls.Check.{check_events, check};
+ghost use Rattle.model.specs.Calls.Check.{check};
 ghost use Rattle.model.specs.Calls.Relations.{relations};
 ghost use Rattle.model.specs.Calls.Load.{load};
 ghost use Rattle.model.specs.Calls.Close.{close, close_out};
 ghost use Rattle.model.specs.Calls.Witness.{witness, witness_out};
 ghost use Rattle.model.specs.Calls.CheckSchedule.{check_schedule};
-ghost use Rattle.laws.specs.Sizes.{records_length, table_length};
-ghost use Rattle.frontier.specs.Visit.{Needed};
-ghost use Rattle.deadlock.specs.Judged.{Holding};
 
+use frontier::Frontier;
 use model::Verdict;
+use relations::Trace;
 
 // Checks a recording: its refusal.
 #[unsafe(no_mangle)]
@@ -29,40 +27,25 @@ pub extern "C" fn timed_check(recording: &[u8]) -> u64
     }
 }
 
-// Fills the tables of records whose events are accepted, and compares their entries n: a number to 4 that
-// depends on every table, so that the compiler leaves none out.
-fn compare_entries(records: &[u8], n: usize) -> u64
-    requires { (length records.now ≤ records_length) × ((check_events (decode_all records.now)).refusal ≡ 0)
-        × (n < table_length) }
+// Compares what the tables have of the last event: a number to 4 that depends on every table, so that the
+// compiler leaves none out.
+fn compare_entries(trace: &Trace) -> u64
     ensures { result ≤ 4 }
 {
-    let mut operations = [0u8; 4096];
-    let mut tasks = [0u8; 4096];
-    let mut objects = [0u16; 4096];
-    let mut holding = [0u64; 4096];
-    let mut predecessors = [0u16; 4112];
-    let mut writers = [0u16; 4096];
-    let mut matches = [0u16; 4096];
-    relations::fill_tables(
-        records,
-        &mut operations,
-        &mut tasks,
-        &mut objects,
-        &mut holding,
-        &mut predecessors,
-        &mut writers,
-        &mut matches,
-    );
-    if operations[n] == tasks[n] {
+    let n = trace.len();
+    if n == 0 {
+        return 0;
+    }
+    if trace.operation(n) as u8 == trace.task(n) {
         return 1;
     }
-    if objects[n] == matches[n] {
+    if trace.object(n) == trace.matching(n) {
         return 2;
     }
-    if predecessors[n] == writers[n] {
+    if trace.predecessor(n) == trace.awaited(n) {
         return 3;
     }
-    if holding[n] == 0 {
+    if trace.held(n) == 0 {
         return 4;
     }
     0
@@ -75,72 +58,18 @@ pub extern "C" fn timed_tables(recording: &[u8]) -> u64
         ≡ (check recording.now).refusal }
 {
     match recording::check(recording) {
-        Ok(()) => compare_entries(&recording[2..], recording::event_count(recording)),
+        Ok(()) => compare_entries(&Trace::read(recording)),
         Err(refusal) => refusal.question.number(),
     }
 }
 
-// Decides the pattern again and again with tables that are filled: what was decided last, if it is one.
-fn decide_often(
-    records: &[u8],
-    holding: &[u64],
-    predecessors: &[u16],
-    writers: &[u16],
-    matches: &[u16],
-    pattern: &[u8],
-    rounds: u64,
-) -> Option<Verdict>
-    requires { (length records.now ≤ records_length) × ((check_events (decode_all records.now)).refusal ≡ 0)
-        × Holding (decode_all records.now) holding.now
-        × Needed (decode_all records.now) predecessors.now writers.now matches.now }
-{
+// Decides the pattern again and again: what was decided last, if it is one.
+fn decide_often(trace: &Trace, pattern: &[u8], rounds: u64) -> Option<Verdict> {
     let mut decided = None;
     for _ in 0..rounds {
-        let mut front = [0u16; 16];
-        decided = deadlock::decide(
-            records,
-            holding,
-            predecessors,
-            writers,
-            matches,
-            pattern,
-            &mut front,
-        );
+        decided = deadlock::decide(trace, pattern, &mut Frontier::empty());
     }
     decided
-}
-
-// Fills the tables of records whose events are accepted, and decides the pattern again and again.
-fn decide_with_tables(records: &[u8], pattern: &[u8], rounds: u64) -> Option<Verdict>
-    requires { (length records.now ≤ records_length)
-        × ((check_events (decode_all records.now)).refusal ≡ 0) }
-{
-    let mut operations = [0u8; 4096];
-    let mut tasks = [0u8; 4096];
-    let mut objects = [0u16; 4096];
-    let mut holding = [0u64; 4096];
-    let mut predecessors = [0u16; 4112];
-    let mut writers = [0u16; 4096];
-    let mut matches = [0u16; 4096];
-    relations::fill_tables(
-        records,
-        &mut operations,
-        &mut tasks,
-        &mut objects,
-        &mut holding,
-        &mut predecessors,
-        &mut writers,
-        &mut matches,
-    );
-    decide_often(
-        records,
-        &holding,
-        &predecessors,
-        &writers,
-        &matches,
-        pattern,
-        rounds,
-    )
 }
 
 // Decides the lent pattern so many times, with the recording checked and its tables filled once: 0 for no
@@ -148,7 +77,7 @@ fn decide_with_tables(records: &[u8], pattern: &[u8], rounds: u64) -> Option<Ver
 #[unsafe(no_mangle)]
 pub extern "C" fn timed_verdicts(recording: &[u8], pattern: &[u8], rounds: u64) -> u64 {
     let decided = match recording::check(recording) {
-        Ok(()) => decide_with_tables(&recording[2..], pattern, rounds),
+        Ok(()) => decide_often(&Trace::read(recording), pattern, rounds),
         Err(_) => None,
     };
     match decided {
