@@ -26,7 +26,7 @@ use Rattle.entries.specs.declared.Full.{Full}
 use Rattle.entries.specs.Taken.{Taken, Adds, Roomy}
 use Rattle.entries.proofs.Laws.{taken_start, taken_over}
 use Rattle.pruning.specs.Linked.{is_nested, Link}
-use Rattle.pruning.proofs.Links.{acquire_free}
+use Rattle.pruning.proofs.Nested.{acquire_free}
 use Rattle.laws.proofs.Lists.{from_split}
 use Rattle.laws.proofs.Filters.{each_append}
 use Rattle.laws.proofs.Firsts.{each_first, each_last}

@@ -17,7 +17,7 @@ use Rattle.laws.specs.Returning.{Covers}
 use Rattle.laws.proofs.Tests.{is_false, decided, equal?, at-most?}
 use Rattle.laws.proofs.Trace.{acquire-event}
 use Rattle.pruning.specs.Linked.{is_nested, Link, Marked, is_near}
-use Rattle.pruning.proofs.Links.{nested_acquire, nested-fits}
+use Rattle.pruning.proofs.Nested.{nested_acquire, nested-fits}
 use Rattle.pruning.proofs.Spreads.{covers_kept, covers_put}
 
 -- ---- marking

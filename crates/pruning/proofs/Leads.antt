@@ -13,7 +13,7 @@ use Rattle.model.specs.Relations.{held}
 use Rattle.laws.specs.Returning.{Covers, Led, Leading}
 use Rattle.laws.proofs.Tests.{equal?, at-most?}
 use Rattle.pruning.specs.Linked.{is_nested, Link}
-use Rattle.pruning.proofs.Links.{acquire_free}
+use Rattle.pruning.proofs.Nested.{acquire_free}
 use Rattle.pruning.proofs.Spreads.{covers-none, covers_kept, covers_put}
 
 -- ---- noting an acquire

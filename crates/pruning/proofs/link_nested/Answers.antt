@@ -4,18 +4,18 @@ use Prim.Native.Nat.{◌-◌}
 use native.Mathlib.Omega.{arith}
 use Rattle.model.specs.Recording.{decode_all}
 use Rattle.laws.proofs.Trace.{decode_all-length}
-use Rattle.pruning.proofs.Links.{linked_last, linked_before}
+use Rattle.pruning.proofs.Nested.{linked_last, linked_before}
 use Rattle.pruning.proofs.link_nested.Goals as goal
 
 pub loop-e-init : goal.loop-e-init
 loop-e-init c =
-    let b = c.args.records.now in
-    linked_last (decode_all b) c.args.next.now c.requires.3 _ (omega (arith, decode_all-length b))
+    linked_last (decode_all c.args.trace.now.records.now) c.args.next.now c.requires _
+    (omega (arith, c.len-e.ensures))
 
 pub loop-e-preserved : goal.loop-e-preserved
 loop-e-preserved c =
     let k = c.loop-e in
-    let b = c.args.records.now in
+    let b = c.args.trace.now.records.now in
     let size = decode_all-length b in
-    linked_before (decode_all b) (k.e - 1) k.top k.next k.invariant (omega (arith, c.requires.0)) _
-    (omega arith) (omega arith) c.nested_or-top.ensures
+    linked_before (decode_all b) (k.e - 1) k.top k.next k.invariant (omega (arith, c.len-e.ensures)) _
+    (omega arith) (omega (arith, c.len-e.ensures)) c.nested_or-top.ensures

@@ -2,8 +2,8 @@
 -- nothing.
 use Prim.Native.Nat.{◌-◌}
 use Rattle.model.specs.Recording.{decode_all}
-use Rattle.pruning.proofs.Links.{LinkedAfter}
+use Rattle.pruning.proofs.Nested.{LinkedAfter}
 use Rattle.pruning.proofs.link_nested.Given as goal
 
 abbrev pub invariant-loop-e : goal.invariant-loop-e
-invariant-loop-e l = LinkedAfter (decode_all l.records) (l.e - 1) l.top l.next
+invariant-loop-e l = LinkedAfter (decode_all l.trace.records.now) (l.e - 1) l.top l.next

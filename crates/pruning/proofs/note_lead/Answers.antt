@@ -5,7 +5,6 @@ use native.Mathlib.Omega.{arith}
 use lib.Dec.{eqb→eq}
 use Rattle.model.specs.Trace.{locks, object}
 use Rattle.model.specs.Recording.{decode_all}
-use Rattle.laws.proofs.Trace.{decode_all-length}
 use Rattle.laws.proofs.WellFormed.{acquire_lt}
 use Rattle.laws.proofs.Questions.{events_sound}
 use Rattle.pruning.specs.Linked.{number_of}
@@ -14,43 +13,29 @@ use Rattle.pruning.proofs.note_lead.Goals as goal
 use Rattle.pruning.proofs.note_lead.Goals.{Start}
 
 -- The object of the acquire is a lock.
-lock : (c : goal.Start) → object (decode_all c.args.records.now) c.args.e < locks
+lock : (c : goal.Start) → object (decode_all c.args.trace.now.records.now) c.args.e < locks
 lock c =
-    acquire_lt (decode_all c.args.records.now) (events_sound c.args.records.now c.requires.3)
-    c.args.e c.requires.5
+    let trace = c.args.trace.now in
+    acquire_lt (decode_all trace.records.now) (events_sound trace.records.now trace.accepted)
+    c.args.e c.requires.2
 
 pub returns-then-guards-held-ne0 : goal.returns-then-guards-held-ne0
 returns-then-guards-held-ne0 c =
     let a = c.args in
-    let size = decode_all-length a.records.now in
-    let is_held_lem = c.requires.4.at a.e c.requires.0 (omega (arith, c.requires.1)) in
-    led-next (decode_all a.records.now) a.a (number_of a.t) a.guards a.lead.now a.e c.requires.6
-    (λ d n. absurd (c.if-guards-held-ne0.true (rw is_held_lem (eqb→eq _ 0 n))))
+    led-next (decode_all a.trace.now.records.now) a.a (number_of a.t) a.guards a.lead.now a.e c.requires.3
+    (λ d n. absurd (c.if-guards-held-ne0.true (rw c.held-held.ensures (eqb→eq _ 0 n))))
 
 pub bounds-lead-l : goal.bounds-lead-l
 bounds-lead-l c =
-    omega (
-      arith,
-      lock (goal.at.bounds-lead-l c).Start,
-      c.object-l.ensures.1,
-      c.requires.6.long,
-    )
+    omega (arith, lock (goal.at.bounds-lead-l c).Start, c.object-l.ensures.1, c.requires.3.long)
 
 pub bounds-lead-l-2 : goal.bounds-lead-l-2
 bounds-lead-l-2 c =
-    omega (
-      arith,
-      lock (goal.at.bounds-lead-l-2 c).Start,
-      c.object-l.ensures.1,
-      c.requires.6.long,
-    )
+    omega (arith, lock (goal.at.bounds-lead-l-2 c).Start, c.object-l.ensures.1, c.requires.3.long)
 
 pub returns : goal.returns
 returns c =
     let a = c.args in
-    let b = a.records.now in
-    let size = decode_all-length b in
     let is-object = c.object-l.ensures.1 in
-    led_noted (decode_all b) a.a (number_of a.t) a.guards a.lead.now a.e c.requires.6 _ _
-    (omega (arith, lock (goal.at.returns c).Start, is-object)) is-object
-    (c.requires.4.at a.e c.requires.0 (omega (arith, c.requires.1)))
+    led_noted (decode_all a.trace.now.records.now) a.a (number_of a.t) a.guards a.lead.now a.e c.requires.3 _ _
+    (omega (arith, lock (goal.at.returns c).Start, is-object)) is-object c.held-held.ensures

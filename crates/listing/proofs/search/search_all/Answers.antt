@@ -9,7 +9,7 @@ use Rattle.model.specs.Recording.{decode_all}
 use Rattle.laws.proofs.Trace.{decode_all-length}
 use Rattle.laws.proofs.Results.{passed_on}
 use Rattle.pruning.specs.Linked.{is_nested, Earliest}
-use Rattle.pruning.proofs.Links.{nested_acquire, linked_earliest}
+use Rattle.pruning.proofs.Nested.{nested_acquire, linked_earliest}
 use Rattle.listing.proofs.Beginnings.{searching-start, searching-next, searching_over, searching_end}
 use Rattle.listing.proofs.search.search_all.Goals as goal
 use Rattle.listing.proofs.search.search_all.Goals.{In-Some}

@@ -4,12 +4,12 @@ use lib.ListN.{length}
 use Rattle.model.specs.Recording.{decode_all}
 use Rattle.laws.specs.Chain.{signature, fits, chain_of}
 use Rattle.pruning.proofs.Walks.{Walked}
-use Rattle.pruning.proofs.following.Given as goal
+use Rattle.pruning.proofs.Links.following.Given as goal
 
 abbrev pub invariant-loop-x : goal.invariant-loop-x
 invariant-loop-x l =
-    Walked (fits (signature (decode_all l.records)) (chain_of 0 l.last l.tasks l.guards))
-    (length (decode_all l.records)) l.e l.at
+    Walked (fits (signature (decode_all l.self.trace.now.records.now)) (chain_of 0 l.last l.tasks l.guards))
+    (length (decode_all l.self.trace.now.records.now)) l.e l.at
 
 abbrev pub decreases-loop-x : goal.decreases-loop-x
-decreases-loop-x l = length (decode_all l.records) - l.at
+decreases-loop-x l = length (decode_all l.self.trace.now.records.now) - l.at

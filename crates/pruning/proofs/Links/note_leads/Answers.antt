@@ -4,35 +4,32 @@ use native.Mathlib.Omega.{arith}
 use Rattle.model.specs.Recording.{decode_all}
 use Rattle.laws.proofs.Trace.{decode_all-length}
 use Rattle.pruning.specs.Linked.{number_of}
-use Rattle.pruning.proofs.Links.{nested_acquire, linked_earliest}
+use Rattle.pruning.proofs.Nested.{nested_acquire}
 use Rattle.pruning.proofs.Leads.{led-start, led_link, led_end}
-use Rattle.pruning.proofs.note_leads.Goals as goal
+use Rattle.pruning.proofs.Links.note_leads.Goals as goal
 
 pub loop-e-init : goal.loop-e-init
 loop-e-init c =
-    let a = c.args in (
-      omega (arith, c.requires.0, decode_all-length a.records.now),
-      led-start (decode_all a.records.now) a.a (number_of a.t) a.guards a.lead.now c.requires.5,
+    let a = c.args in
+    let b = a.self.now.trace.now.records.now in (
+      omega (arith, c.requires.0, decode_all-length b),
+      led-start (decode_all b) a.a (number_of a.t) a.guards a.lead.now c.requires.1,
     )
 
 pub link-requires : goal.link-requires
 link-requires c =
-    omega (arith, c.loop-e.invariant.0, c.requires.4.long, c.requires.1, decode_all-length c.args.records.now)
+    omega (arith, c.loop-e.invariant.0, decode_all-length c.args.self.now.trace.now.records.now)
 
 pub note_lead-requires : goal.note_lead-requires
 note_lead-requires c =
     let a = c.args in
-    let b = a.records.now in
+    let b = a.self.now.trace.now.records.now in
     let l = c.loop-e in
-    let (d, y) = linked_earliest (decode_all b) a.next.now c.requires.4 l.at l.invariant.0 _
-    c.in-Some.ensures in
+    let (d, y) = c.in-Some.ensures in
     let e = y.passes d in
     let size = decode_all-length b in (
       omega (arith, e.0),
       omega (arith, e.1),
-      c.requires.1,
-      c.requires.2,
-      c.requires.3,
       nested_acquire _ c.in-Some.e e.2,
       led_link (decode_all b) a.a (number_of a.t) a.guards l.lead l.at l.invariant.1 c.in-Some.e y,
     )
@@ -41,6 +38,5 @@ pub returns : goal.returns
 returns c =
     let a = c.args in
     let l = c.loop-e in
-    led_end (decode_all a.records.now) a.a (number_of a.t) a.guards l.lead l.at l.invariant.1
-    (linked_earliest (decode_all a.records.now) a.next.now c.requires.4 l.at l.invariant.0 _
-    c.in_default.ensures)
+    led_end (decode_all a.self.now.trace.now.records.now) a.a (number_of a.t) a.guards l.lead l.at l.invariant.1
+    c.in_default.ensures

@@ -11,48 +11,39 @@ use Rattle.laws.proofs.WellFormed.{acquire_lt}
 use Rattle.pruning.specs.Linked.{is_near}
 use Rattle.pruning.proofs.Walks.{walked-start, walked-none, walked_found, walked-next, alone}
 use Rattle.pruning.proofs.Blocks.{near_fits}
-use Rattle.pruning.proofs.following.Goals as goal
-use Rattle.pruning.proofs.following.Goals.{After-object-l}
+use Rattle.pruning.proofs.Links.following.Goals as goal
+use Rattle.pruning.proofs.Links.following.Goals.{After-object-l}
 
 -- What is not near does not follow.
-far : (c : After-object-l) → let a = c.args in (f : ℕ)
-    → is_near (decode_all a.records.now) a.blocks.now c.object-l.result f ≡ false
-    → fits (signature (decode_all a.records.now)) (chain_of 0 a.last a.tasks a.guards) f ≡ false
+far : (c : After-object-l) → let a = c.args in
+    let σ = decode_all a.self.now.trace.now.records.now in (f : ℕ)
+    → is_near σ a.self.now.blocks c.object-l.result f ≡ false
+    → fits (signature σ) (chain_of 0 a.last a.tasks a.guards) f ≡ false
 far c f =
     let a = c.args in
-    near_fits (decode_all a.records.now) a.blocks.now c.requires.7 (chain_of 0 a.last a.tasks a.guards)
-    c.object-l.result f c.object-l.ensures.1
+    near_fits (decode_all a.self.now.trace.now.records.now) a.self.now.blocks a.self.now.marked
+    (chain_of 0 a.last a.tasks a.guards) c.object-l.result f c.object-l.ensures.1
 
 pub loop-x-init : goal.loop-x-init
 loop-x-init c =
-    walked-start _ _ c.args.e (omega (arith, c.requires.2, decode_all-length c.args.records.now))
+    walked-start _ _ c.args.e
+    (omega (arith, c.requires.2, decode_all-length c.args.self.now.trace.now.records.now))
 
 pub hop-requires : goal.hop-requires
 hop-requires c =
-    let b = c.args.records.now in (
-      rw c.object-l.ensures.1 (acquire_lt (decode_all b) (events_sound b c.requires.4) c.args.last
-          c.requires.8),
+    let trace = c.args.self.now.trace.now in
+    let b = trace.records.now in (
+      rw c.object-l.ensures.1
+          (acquire_lt (decode_all b) (events_sound b trace.accepted) c.args.last c.requires.3),
       omega (arith, c.loop-x.invariant.high, decode_all-length b),
-      c.requires.3,
-      c.requires.6,
-      c.requires.7.long,
     )
 
 pub follows-requires : goal.follows-requires
 follows-requires c =
-    let b = c.args.records.now in
     let (d, y) = c.in-Some.ensures in
     let event = y.passes d in
-    let size = decode_all-length b in (
-      c.requires.0,
-      c.requires.1,
-      omega (arith, event.0),
-      omega (arith, event.1),
-      c.requires.3,
-      c.requires.4,
-      c.requires.5,
-      c.requires.8,
-    )
+    let size = decode_all-length c.args.self.now.trace.now.records.now in
+    (c.requires.0, c.requires.1, omega (arith, event.0), omega (arith, event.1), c.requires.3)
 
 pub returns-then-follows : goal.returns-then-follows
 returns-then-follows c =

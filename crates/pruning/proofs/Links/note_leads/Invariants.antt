@@ -5,12 +5,12 @@ use lib.ListN.{length}
 use Rattle.model.specs.Recording.{decode_all}
 use Rattle.laws.specs.Returning.{Led}
 use Rattle.pruning.specs.Linked.{number_of}
-use Rattle.pruning.proofs.note_leads.Given as goal
+use Rattle.pruning.proofs.Links.note_leads.Given as goal
 
 abbrev pub invariant-loop-e : goal.invariant-loop-e
 invariant-loop-e l =
-    (l.at ≤ length (decode_all l.records))
-    × Led (decode_all l.records) l.a (l.at + 1) (number_of l.t) l.guards l.lead
+    (l.at ≤ length (decode_all l.self.trace.now.records.now))
+    × Led (decode_all l.self.trace.now.records.now) l.a (l.at + 1) (number_of l.t) l.guards l.lead
 
 abbrev pub decreases-loop-e : goal.decreases-loop-e
-decreases-loop-e l = length (decode_all l.records) - l.at
+decreases-loop-e l = length (decode_all l.self.trace.now.records.now) - l.at
