@@ -24,6 +24,7 @@ use Rattle.laws.proofs.Trace.{is_event_iff}
 use Rattle.laws.proofs.WellFormed.{WellFormed}
 use Rattle.laws.proofs.Pattern.{events_inside}
 use Rattle.laws.proofs.Before.{before-extend, before_deadlock}
+use Rattle.frontier.specs.declared.Frontier.{Frontier}
 use Rattle.deadlock.specs.Judged.{Gives}
 use Rattle.chain.specs.declared.Trial.TheVariants.{Success, Failure, TaskFailure, Skipped}
 use Rattle.chain.specs.Attempted.{Along, Reusable, Attempted}
@@ -45,9 +46,9 @@ front_given path len h given is =
 
 module _ (σ : Trace) (k : ℕ) (p : List ℕ) (first e : ℕ) where
   -- A lock that does not lead back.
-  pub attempted_nowhere : (back grown newest : List ℕ) → Returning σ first (suc k) back
-      → has_bit (get_or back k 0) (object σ e) ≡ false → Attempted σ k p first e Skipped grown newest
-  attempted_nowhere back grown newest z h = record {
+  pub attempted_nowhere : (back : List ℕ) (grown : Frontier) → Returning σ first (suc k) back
+      → has_bit (get_or back k 0) (object σ e) ≡ false → Attempted σ k p first e Skipped grown
+  attempted_nowhere back grown z h = record {
     deadlock = λ q. cc;
     grows = λ d. absurd (d refl);
     dropped = λ d c a.
@@ -61,21 +62,22 @@ module _ (σ : Trace) (k : ℕ) (p : List ℕ) (first e : ℕ) where
           is_false (has_bit (held σ first) (object σ e)) (not_T (has_bit (held σ first) (object σ e)) (λ t.
           T_not (has_bit (get_or back k 0) (object σ e)) (rw h tt) (z.covers k (omega arith) (object σ e) t)))
 
-  module _ (grown newest : List ℕ) (inside : T (all (is_event σ) p)) (here : (1 ≤ e) × (e ≤ length σ))
-      (z : Before σ (p ++ e ∷ []) grown newest) where
+  module _ (grown : Frontier) (inside : T (all (is_event σ) p)) (here : (1 ≤ e) × (e ≤ length σ))
+      (z : Before σ (p ++ e ∷ []) grown.front grown.latest) where
     -- What the frontier has decides.
     verdict : is_deadlock σ (p ++ e ∷ [])
-        ≡ (all (λ f. not (leb f (get_or grown (task σ f) 0))) p && not (leb e (get_or grown (task σ e) 0)))
+        ≡ (all (λ f. not (leb f (get_or grown.front (task σ f) 0))) p
+        && not (leb e (get_or grown.front (task σ e) 0)))
     verdict =
-        before_deadlock σ (p ++ e ∷ []) grown newest z (path_more σ p e inside here.0 here.1)
+        before_deadlock σ (p ++ e ∷ []) grown.front grown.latest z (path_more σ p e inside here.0 here.1)
         ∙ all_append test p (e ∷ []) ∙ ap (λ (b : Bool). all test p && b) (and-true (test e))
       where
         test : ℕ → Bool
-        test f = not (leb f (get_or grown (task σ f) 0))
+        test f = not (leb f (get_or grown.front (task σ f) 0))
 
     -- The closure has an event of the path.
-    pub attempted_met : all (λ f. not (leb f (get_or grown (task σ f) 0))) p ≡ false
-        → Attempted σ k p first e TaskFailure grown newest
+    pub attempted_met : all (λ f. not (leb f (get_or grown.front (task σ f) 0))) p ≡ false
+        → Attempted σ k p first e TaskFailure grown
     attempted_met h = record {
       deadlock = λ q. cc;
       grows = λ d. z;
@@ -85,16 +87,16 @@ module _ (σ : Trace) (k : ℕ) (p : List ℕ) (first e : ℕ) where
       where
         after : (f : ℕ) → e < f → f ≤ length σ → task σ f ≡ task σ e → is_deadlock σ (p ++ f ∷ []) ≡ false
         after f l m s =
-            let (x, i, n) = all_fails (λ g. not (leb g (get_or grown (task σ g) 0))) p h in
+            let (x, i, n) = all_fails (λ g. not (leb g (get_or grown.front (task σ g) 0))) p h in
             let event = (is_event_iff σ x).0 ((all_iff (is_event σ) p).0 inside x i) in
             not_deadlock_later σ p e f x
             (events_inside σ (p ++ f ∷ []) (path_more σ p f inside (omega arith) m)) here.0 l (sym s) i
-            (rw (z.members x event.0 event.1, not-false (leb x (get_or grown (task σ x) 0)) n) tt)
+            (rw (z.members x event.0 event.1, not-false (leb x (get_or grown.front (task σ x) 0)) n) tt)
 
-    module _ (h : all (λ f. not (leb f (get_or grown (task σ f) 0))) p ≡ true) where
+    module _ (h : all (λ f. not (leb f (get_or grown.front (task σ f) 0))) p ≡ true) where
       -- It has the event itself.
-      pub attempted_itself : leb e (get_or grown (task σ e) 0) ≡ true
-          → Attempted σ k p first e Failure grown newest
+      pub attempted_itself : leb e (get_or grown.front (task σ e) 0) ≡ true
+          → Attempted σ k p first e Failure grown
       attempted_itself y = record {
         deadlock = λ q. cc;
         grows = λ d. z;
@@ -103,8 +105,8 @@ module _ (σ : Trace) (k : ℕ) (p : List ℕ) (first e : ℕ) where
       }
 
       -- It has none of the events.
-      pub attempted_deadlock : leb e (get_or grown (task σ e) 0) ≡ false
-          → Attempted σ k p first e Success grown newest
+      pub attempted_deadlock : leb e (get_or grown.front (task σ e) 0) ≡ false
+          → Attempted σ k p first e Success grown
       attempted_deadlock n = record {
         deadlock = λ q. rw (verdict, h, n);
         grows = λ d. z;
@@ -119,31 +121,27 @@ kept? : (of : Option ℕ) (t : ℕ) → (of ≡ Some t) ⊎ (of ≢ Some t)
 kept? None t = inr (λ q. cc)
 kept? (Some u) t = ⊎_elim (λ (q : u ≡ t). inl (ap Some q)) (λ (d : u ≢ t). inr (λ q. d (cc))) (equal? u t)
 
-module _ (σ : Trace) (of : Option ℕ) (e : ℕ) (front latest grown newest base top : List ℕ)
-    (kept : of ≡ Some (task σ e) → (base ≡ grown) × (top ≡ newest))
-    (copied : of ≢ Some (task σ e) → (base ≡ front) × (top ≡ latest)) where
+module _ (σ : Trace) (of : Option ℕ) (e : ℕ) (frontier grown base : Frontier)
+    (kept : of ≡ Some (task σ e) → base ≡ grown) (copied : of ≢ Some (task σ e) → base ≡ frontier) where
   -- It is at rest.
-  pub grow_settled : Settled σ front front latest
-      → (of ≡ Some (task σ e) → Settled σ grown grown newest) → Settled σ base base top
-  grow_settled z y =
-      ⊎_elim (λ q. let (i, j) = kept q in rw (i, j) (y q)) (λ d. let (i, j) = copied d in rw (i, j) z)
-      (kept? of (task σ e))
+  pub grow_settled : Settled σ frontier.front frontier.front frontier.latest
+      → (of ≡ Some (task σ e) → Settled σ grown.front grown.front grown.latest)
+      → Settled σ base.front base.front base.latest
+  grow_settled z y = ⊎_elim (λ q. rw (kept q) (y q)) (λ d. rw (copied d) z) (kept? of (task σ e))
 
   -- Extended by the predecessor of e, it is that of the predecessors of the events and e.
   pub grow_reaches : WellFormed σ → (front' latest' : List ℕ) → 1 ≤ e → e ≤ length σ
-      → Advanced σ (wanted σ base (predecessor σ e)) front' latest' → (p : List ℕ)
-      → T (all (is_event σ) p) → Reusable σ p of e front latest grown newest
-      → Before σ (p ++ e ∷ []) front' latest'
+      → Advanced σ (wanted σ base.front (predecessor σ e)) front' latest' → (p : List ℕ)
+      → T (all (is_event σ) p) → Reusable σ p of e frontier grown → Before σ (p ++ e ∷ []) front' latest'
   grow_reaches ok front' latest' h l a p t z = ⊎_elim again anew (kept? of (task σ e))
     where
       again : of ≡ Some (task σ e) → Before σ (p ++ e ∷ []) front' latest'
       again q =
-          let (i, j) = kept q in
           let (d, low, less, same, before) = z.again q in
-          before-again σ ok p grown newest d e front' latest' before low less same
-          (events_inside σ (p ++ e ∷ []) (path_more σ p e t h l)) (rw i at a)
+          before-again σ ok p grown.front grown.latest d e front' latest' before low less same
+          (events_inside σ (p ++ e ∷ []) (path_more σ p e t h l)) (rw (kept q) at a)
 
       anew : of ≢ Some (task σ e) → Before σ (p ++ e ∷ []) front' latest'
       anew d =
-          let (i, j) = copied d in
-          before-extend σ ok p front latest e front' latest' z.before h l (rw i at a)
+          before-extend σ ok p frontier.front frontier.latest e front' latest' z.before h l
+          (rw (copied d) at a)

@@ -7,6 +7,7 @@ use Rattle.laws.specs.Chain.{Chain}
 use Rattle.laws.specs.Walk.{branch}
 use Rattle.laws.specs.Returning.{Rooted}
 use Rattle.laws.specs.Frontier.{Before}
+use Rattle.frontier.specs.declared.Frontier.{Frontier}
 use Rattle.chain.specs.declared.Trial.{Trial}
 use Rattle.chain.specs.declared.Trial.TheVariants.{Success, TaskFailure, Skipped}
 
@@ -18,19 +19,19 @@ pub record Along (σ : Trace) (p : List ℕ) (first : ℕ) (c : Chain) : Type 0 
 
 -- The frontiers from which that of the predecessors of p and e may be reached: that of p, and where `of` is
 -- the task of e that of p and an earlier event of this task.
-pub record Reusable (σ : Trace) (p : List ℕ) (of : Option ℕ) (e : ℕ) (front latest grown newest : List ℕ)
+pub record Reusable (σ : Trace) (p : List ℕ) (of : Option ℕ) (e : ℕ) (frontier grown : Frontier)
     : Type 0 where
-  pub before : Before σ p front latest
+  pub before : Before σ p frontier.front frontier.latest
   pub again : of ≡ Some (task σ e)
-      → (d : ℕ) × (1 ≤ d) × (d < e) × (task σ d ≡ task σ e) × Before σ (p ++ d ∷ []) grown newest
+      → (d : ℕ) × (1 ≤ d) × (d < e) × (task σ d ≡ task σ e) × Before σ (p ++ d ∷ []) grown.front grown.latest
 
 -- Event e after the events p: with success they make a deadlock so far; otherwise e adds nothing, and where
 -- its task fails no later event of the task does. The frontier is that of their predecessors, unless e is
 -- skipped.
-pub record Attempted (σ : Trace) (k : ℕ) (p : List ℕ) (first e : ℕ) (r : Trial) (grown newest : List ℕ)
+pub record Attempted (σ : Trace) (k : ℕ) (p : List ℕ) (first e : ℕ) (r : Trial) (grown : Frontier)
     : Type 0 where
   pub deadlock : r ≡ Success → is_deadlock σ (p ++ e ∷ []) ≡ true
-  pub grows : r ≢ Skipped → Before σ (p ++ e ∷ []) grown newest
+  pub grows : r ≢ Skipped → Before σ (p ++ e ∷ []) grown.front grown.latest
   pub dropped : r ≢ Success → (c : Chain) → Along σ p first c → branch σ k c e ≡ []
   pub later : r ≡ TaskFailure → (c : Chain) → Along σ p first c → (f : ℕ) → e < f → f ≤ length σ
       → task σ f ≡ task σ e → branch σ k c f ≡ []

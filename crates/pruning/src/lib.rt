@@ -16,8 +16,8 @@ ghost use Rattle.pruning.specs.Linked.{is_nested, event_of, number_of, Linked, M
 
 use relations::Trace;
 
-// An accepted recording with the links of its events: of each event, and of number 0, the first nested acquire
-// after it, or 0, and for each 64 events in turn the locks that are held at their acquires.
+// An accepted recording with the links of its events: of each event, and of number 0, the first nested
+// acquire after it, or 0, and for each 64 events in turn the locks that are held at their acquires.
 #[derive(Drop)]
 pub struct Links<'a> {
     pub trace: &'a Trace<'a>,
@@ -162,8 +162,8 @@ impl<'a> Links<'a> {
         None
     }
 
-    // For each lock, the locks that are held at its acquires after event a, by other tasks than t, if any, and
-    // with none of the guards.
+    // For each lock, the locks that are held at its acquires after event a, by other tasks than t, if any,
+    // and with none of the guards.
     pub fn note_leads(&self, a: usize, t: Option<u8>, guards: u64, lead: &mut [u64])
         requires { (2 * a ≤ length self.now.trace.now.records.now) × (length lead.old ≡ locks) }
         ensures { Leading (decode_all self.now.trace.now.records.now) a (number_of t) guards lead.new }

@@ -7,9 +7,9 @@ use Rattle.chain.proofs.grow.Goals as goal
 
 pub returns : goal.returns
 returns c =
-    let b = c.args.records.now in
+    let a = c.args in
+    let b = a.trace.now.records.now in
     let r = c.renew.ensures in
-    let event = record-event b c.args.e (c.requires.5, c.requires.6) in
-    grow_reaches (decode_all b) c.args.of c.args.e c.args.front.now c.args.latest.now
-    c.args.grown.now c.args.newest.now _ _ r.kept r.copied (events_sound b c.requires.1) _ _ event.0 event.1
-    c.extend.ensures.0
+    let event = record-event b a.e (c.requires.2, c.requires.3) in
+    grow_reaches (decode_all b) a.of a.e a.frontier.now a.grown.now _ r.kept r.copied
+    (events_sound b a.trace.now.accepted) _ _ event.0 event.1 c.extend.ensures

@@ -37,5 +37,5 @@ pub returns : goal.returns
 returns c =
     let a = c.args in
     let is-object = c.object-l.ensures.1 in
-    led_noted (decode_all a.trace.now.records.now) a.a (number_of a.t) a.guards a.lead.now a.e c.requires.3 _ _
-    (omega (arith, lock (goal.at.returns c).Start, is-object)) is-object c.held-held.ensures
+    led_noted (decode_all a.trace.now.records.now) a.a (number_of a.t) a.guards a.lead.now a.e c.requires.3
+    _ _ (omega (arith, lock (goal.at.returns c).Start, is-object)) is-object c.held-held.ensures

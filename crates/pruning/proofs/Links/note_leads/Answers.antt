@@ -38,5 +38,5 @@ pub returns : goal.returns
 returns c =
     let a = c.args in
     let l = c.loop-e in
-    led_end (decode_all a.self.now.trace.now.records.now) a.a (number_of a.t) a.guards l.lead l.at l.invariant.1
-    c.in_default.ensures
+    led_end (decode_all a.self.now.trace.now.records.now) a.a (number_of a.t) a.guards l.lead l.at
+    l.invariant.1 c.in_default.ensures
