@@ -7,18 +7,18 @@ use mathlib.Core.List.{List, [], ◌∷◌, ◌++◌}
 use native.Mathlib.Omega.{arith}
 use native.Mathlib.Nat.{sub-zero}
 use lib.Dec.{T}
-use Rattle.std.specs.Prelude.{None, Result, Ok, Err}
+use Rattle.std.specs.Prelude.{Result, Ok, Err}
 use lib.Bits.{bit_or, or_zero_l}
-use lib.ListN.{length, get_or, take, set, replicate, length-set}
+use lib.ListN.{length, get_or, take, set, length-set}
 use lib.Seq.{get_or-set_same, take-suc-set}
 use Rattle.model.specs.Lists.{from, each, has_bit}
-use Rattle.model.specs.Trace.{Trace, tasks, locks, task, object, is_acquire}
+use Rattle.model.specs.Trace.{Trace, task, object, is_acquire}
 use Rattle.model.specs.Relations.{held}
 use Rattle.model.specs.Pattern.{largest_pattern}
 use Rattle.model.specs.Listing.{deadlocks}
 use Rattle.laws.specs.Chain.{signature, start}
 use Rattle.laws.specs.Frontier.{Before}
-use Rattle.chain.specs.Attempted.{Reusable}
+use Rattle.frontier.specs.declared.Frontier.{Frontier}
 use Rattle.laws.specs.Walk.{beginning}
 use Rattle.laws.specs.Returning.{Returning}
 use Rattle.entries.specs.declared.Found.{Found}
@@ -31,7 +31,6 @@ use Rattle.laws.proofs.Lists.{from_split}
 use Rattle.laws.proofs.Filters.{each_append}
 use Rattle.laws.proofs.Firsts.{each_first, each_last}
 use Rattle.laws.proofs.Tests.{is_true, decided}
-use Rattle.laws.proofs.Before.{before-start}
 use Rattle.laws.proofs.Extensions.{beginning_acquire, beginning-none, beginning-unheld, deadlocks-beginning}
 use Rattle.laws.proofs.Returning.{start_rooted}
 use Rattle.chain.proofs.Laws.{path_more}
@@ -55,10 +54,10 @@ module _ (σ : Trace) (path : List ℕ) (a : ℕ) (long : length path ≡ larges
       at = get_or-set_same path 0 a 0 (omega (arith, long))
 
   -- It is open.
-  pub begin_open : (largest : ℕ) (front latest : List ℕ) → 1 ≤ a → a ≤ length σ → T (is_acquire σ a)
-      → largest ≤ largest_pattern → 2 ≤ largest → Before σ (a ∷ []) front latest
-      → Open σ (set path 0 a) 1 (largest - 1) (bit_or 0 (2 ^ (task σ a))) (held σ a) front latest
-  begin_open largest front latest h k t most least z = record {
+  pub begin_open : (largest : ℕ) (frontier : Frontier) → 1 ≤ a → a ≤ length σ → T (is_acquire σ a)
+      → largest ≤ largest_pattern → 2 ≤ largest → Before σ (a ∷ []) frontier.front frontier.latest
+      → Open σ (set path 0 a) 1 (largest - 1) (bit_or 0 (2 ^ (task σ a))) (held σ a) frontier
+  begin_open largest frontier h k t most least z = record {
     long = length-set path 0 a ∙ long;
     some = omega arith;
     sized = omega arith;
@@ -67,12 +66,6 @@ module _ (σ : Trace) (path : List ℕ) (a : ℕ) (long : length path ≡ larges
     rooted = rw begin_chain (start_rooted σ a);
     before = rw one z;
   }
-
--- The frontier of no events is that from which the first one's is reached.
-pub begin_reusable : (σ : Trace) (a : ℕ) (empty none grown newest : List ℕ) → empty ≡ replicate tasks 0
-    → none ≡ replicate locks 0 → Reusable σ [] None a empty none grown newest
-begin_reusable σ a empty none grown newest p q =
-    record { before = before-start σ empty none p q; again = λ s. cc }
 
 -- An acquire whose lock does not lead back begins nothing.
 pub beginning_nowhere : (σ : Trace) (a largest : ℕ) (back : List ℕ) → T (is_acquire σ a) → 2 ≤ largest

@@ -21,6 +21,7 @@ use Rattle.laws.proofs.Tests.{and_iff}
 use Rattle.laws.proofs.Extensions.{extensions-zero, branch_closes, branch_longer}
 use Rattle.laws.proofs.Returning.{add_rooted}
 use Rattle.chain.proofs.Laws.{path_more}
+use Rattle.frontier.specs.declared.Frontier.{Frontier}
 use Rattle.chain.specs.declared.Trial.{Trial}
 use Rattle.chain.specs.declared.Trial.TheVariants.{Success}
 use Rattle.entries.specs.declared.Found.{Found}
@@ -87,8 +88,8 @@ returning_fewer l z = record {
 
 -- ---- what comes of an event after a chain
 
-module _ {σ : Trace} {path : List ℕ} {len k tasks guards e : ℕ} {met : Trial} {front latest : List ℕ}
-    (z : Descending σ path len k tasks guards e met front latest) where
+module _ {σ : Trace} {path : List ℕ} {len k tasks guards e : ℕ} {met : Trial} {frontier : Frontier}
+    (z : Descending σ path len k tasks guards e met frontier) where
   -- An event that fits is an acquire.
   pub follows_acquire : T (is_acquire σ e)
   follows_acquire =
@@ -126,7 +127,7 @@ module _ {σ : Trace} {path : List ℕ} {len k tasks guards e : ℕ} {met : Tria
 
     -- The longer chain is open.
     pub descend_open : Open σ (set path len e) (len + 1) k (bit_or tasks (2 ^ (task σ e)))
-        (bit_or guards (held σ e)) front latest
+        (bit_or guards (held σ e)) frontier
     descend_open = record {
       long = length-set path len e ∙ z.long;
       some = omega arith;

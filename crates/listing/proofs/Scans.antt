@@ -21,6 +21,7 @@ use Rattle.laws.proofs.Lists.{from_split}
 use Rattle.laws.proofs.Filters.{each_append}
 use Rattle.laws.proofs.Firsts.{each_first, each_last}
 use Rattle.laws.proofs.Extensions.{extensions-suc, branch_unfit}
+use Rattle.frontier.specs.declared.Frontier.{Frontier}
 use Rattle.chain.specs.declared.Trial.{Trial}
 use Rattle.chain.specs.declared.Trial.TheVariants.{Success, Failure, TaskFailure, Skipped}
 use Rattle.chain.specs.Attempted.{Along, Attempted, excluded_after}
@@ -113,12 +114,12 @@ module _ {σ : Trace} {k : ℕ} {c : Chain} {room : ℕ} where
               )
 
       -- The scan goes on behind it.
-      pub scanning-next : {p : List ℕ} {met : Trial} {grown newest : List ℕ} → Along σ p c.first c
-          → Attempted σ k p c.first e met grown newest → {excluded' : ℕ}
+      pub scanning-next : {p : List ℕ} {met : Trial} {grown : Frontier} → Along σ p c.first c
+          → Attempted σ k p c.first e met grown → {excluded' : ℕ}
           → excluded' ≡ excluded_after σ excluded met e → {out' : List ℕ} {f' : Found}
           → Adds room (branch σ k c e) out out' f (Ok f') → Roomy room f'
           → Scanning σ k c room excluded' e out₀ out' f₀ f'
-      scanning-next {p} {met} {grown} {newest} along t {excluded'} q a r = record {
+      scanning-next {p} {met} {grown} along t {excluded'} q a r = record {
         covers = λ l s. wider l (z.covers l s);
         low = omega (arith, scanning_event);
         high = scanning_event.2;
@@ -138,7 +139,7 @@ module _ {σ : Trace} {k : ℕ} {c : Chain} {room : ℕ} where
             | Skipped ↦ s
           ])
 
-          rest : (m : Trial) → Attempted σ k p c.first e m grown newest
+          rest : (m : Trial) → Attempted σ k p c.first e m grown
               → excluded' ≡ excluded_after σ excluded m e → (g : ℕ) → e < g → g ≤ length σ → passes σ c excluded' g ≡ false → branch σ k c g ≡ []
           rest Success t q g h i m = more g h i (rw q at m)
           rest Failure t q g h i m = more g h i (rw q at m)

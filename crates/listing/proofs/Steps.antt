@@ -15,6 +15,7 @@ use Rattle.laws.specs.Chain.{Chain, signature, fits}
 use Rattle.laws.specs.Frontier.{Before}
 use Rattle.laws.specs.Walk.{First, extensions, branch}
 use Rattle.laws.specs.Returning.{Returning}
+use Rattle.frontier.specs.declared.Frontier.{Frontier}
 use Rattle.chain.specs.declared.Trial.{Trial}
 use Rattle.chain.specs.declared.Trial.TheVariants.{Success, Failure, TaskFailure, Skipped}
 use Rattle.chain.specs.Attempted.{Along, Reusable, Attempted, excluded_after, reused_after}
@@ -26,8 +27,8 @@ use Rattle.listing.proofs.Paths.{chain-kept, returning_fewer}
 use Rattle.listing.proofs.Scans.{passes, Scanning, scanning_event, scanning-fits, scanning_over}
 use Rattle.listing.proofs.Scans.{scanning-next, scanning_end}
 
-module _ {σ : Trace} {path₀ : List ℕ} {len left tasks guards : ℕ} {front latest : List ℕ}
-    (o : Open σ path₀ len left tasks guards front latest) (path : List ℕ)
+module _ {σ : Trace} {path₀ : List ℕ} {len left tasks guards : ℕ} {frontier : Frontier}
+    (o : Open σ path₀ len left tasks guards frontier) (path : List ℕ)
     (long : length path ≡ largest_pattern) (kept : take len path ≡ take len path₀) where
   -- The chain of the path is the one that is extended.
   pub same_chain : chain_at path len tasks guards ≡ chain_at path₀ len tasks guards
@@ -54,9 +55,9 @@ module _ {σ : Trace} {path₀ : List ℕ} {len left tasks guards : ℕ} {front 
       (z : Scanning σ (left - 1) (chain_at path₀ len tasks guards) room excluded at out₀ out f₀ f) {e : ℕ}
       (d : e ≢ 0) (y : First (passes σ (chain_at path₀ len tasks guards) excluded) (length σ) at e) where
     -- An event that was attempted may be followed.
-    pub descending : {met : Trial} {grown newest : List ℕ}
-        → Attempted σ (left - 1) (take len path) (get_or path 0 0) e met grown newest
-        → Descending σ path len (left - 1) tasks guards e met grown newest
+    pub descending : {met : Trial} {grown : Frontier}
+        → Attempted σ (left - 1) (take len path) (get_or path 0 0) e met grown
+        → Descending σ path len (left - 1) tasks guards e met grown
     descending a = record {
       long = long;
       some = o.some;
@@ -78,15 +79,15 @@ module _ {σ : Trace} {path₀ : List ℕ} {len left tasks guards : ℕ} {front 
         let q : left ≡ suc (left - 1) = omega arith in rw q (scanning_over z d y (rw (← same_chain) a))
 
     -- The scan goes on behind it.
-    pub step-next : {met : Trial} {grown newest : List ℕ}
-        → Attempted σ (left - 1) (take len path) (get_or path 0 0) e met grown newest → {excluded' : ℕ}
+    pub step-next : {met : Trial} {grown : Frontier}
+        → Attempted σ (left - 1) (take len path) (get_or path 0 0) e met grown → {excluded' : ℕ}
         → excluded' ≡ excluded_after σ excluded met e → {out' : List ℕ} {f' : Found}
         → Adds room (branch σ (left - 1) (chain_at path len tasks guards) e) out out' f (Ok f')
         → Roomy room f'
         → Scanning σ (left - 1) (chain_at path₀ len tasks guards) room excluded' e out₀ out' f₀ f'
-    step-next {met} {grown} {newest} t q a =
+    step-next {met} {grown} t q a =
         scanning-next z d y (record { events = sym kept; begins = refl; rooted = o.rooted })
-        (subst (λ (x : ℕ). Attempted σ (left - 1) (take len path) x e met grown newest) same_first t) q
+        (subst (λ (x : ℕ). Attempted σ (left - 1) (take len path) x e met grown) same_first t) q
         (rw (← same_chain) a)
 
 -- At the end all is taken.
@@ -99,18 +100,18 @@ step_end {σ} {left} h z y = let s : left ≡ suc (left - 1) = omega arith in rw
 
 -- Where a task's frontier is kept, it is that of the events p and an event of this task, at the latest the one
 -- at a place.
-pub record Kept (σ : Trace) (p : List ℕ) (of : Option ℕ) (at : ℕ) (grown newest : List ℕ) : Type 0 where
+pub record Kept (σ : Trace) (p : List ℕ) (of : Option ℕ) (at : ℕ) (grown : Frontier) : Type 0 where
   pub again : (t : ℕ) → of ≡ Some t
-      → (d : ℕ) × (1 ≤ d) × (d ≤ at) × (task σ d ≡ t) × Before σ (p ++ d ∷ []) grown newest
+      → (d : ℕ) × (1 ≤ d) × (d ≤ at) × (task σ d ≡ t) × Before σ (p ++ d ∷ []) grown.front grown.latest
 
 -- At first none is kept.
-pub kept-start : {σ : Trace} {p : List ℕ} {at : ℕ} {grown newest : List ℕ} → Kept σ p None at grown newest
+pub kept-start : {σ : Trace} {p : List ℕ} {at : ℕ} {grown : Frontier} → Kept σ p None at grown
 kept-start = record { again = λ t q. cc }
 
 -- It may be extended to that of a later event.
-pub kept_reusable : {σ : Trace} {p : List ℕ} {of : Option ℕ} {at e : ℕ} {front latest grown newest : List ℕ}
-    → Kept σ p of at grown newest → at < e → Before σ p front latest
-    → Reusable σ p of e front latest grown newest
+pub kept_reusable : {σ : Trace} {p : List ℕ} {of : Option ℕ} {at e : ℕ} {frontier grown : Frontier}
+    → Kept σ p of at grown → at < e → Before σ p frontier.front frontier.latest
+    → Reusable σ p of e frontier grown
 kept_reusable {σ} {p} {of} {at} {e} z h b = record {
   before = b;
   again = λ q. let (d, low, less, own, before) = z.again (task σ e) q in (d, low, omega arith, own, before);
@@ -118,29 +119,28 @@ kept_reusable {σ} {p} {of} {at} {e} z h b = record {
 
 -- The frontier of event e is kept, unless e was skipped.
 pub kept_next : {σ : Trace} {k : ℕ} {p q : List ℕ} {first : ℕ} {of : Option ℕ} {at e : ℕ} {met : Trial}
-    {grown newest grown' newest' : List ℕ} → q ≡ p → Kept σ p of at grown newest → at < e → 1 ≤ e
-    → Attempted σ k q first e met grown' newest' → (met ≡ Skipped → (grown' ≡ grown) × (newest' ≡ newest))
-    → {of' : Option ℕ} → of' ≡ reused_after σ of met e → Kept σ p of' e grown' newest'
-kept_next {σ} {k} {p} {q} {first} {of} {at} {e} {met} {grown} {newest} {grown'} {newest'} s z l h a same {of'}
+    {grown grown' : Frontier} → q ≡ p → Kept σ p of at grown → at < e → 1 ≤ e
+    → Attempted σ k q first e met grown' → (met ≡ Skipped → grown' ≡ grown)
+    → {of' : Option ℕ} → of' ≡ reused_after σ of met e → Kept σ p of' e grown'
+kept_next {σ} {k} {p} {q} {first} {of} {at} {e} {met} {grown} {grown'} s z l h a same {of'}
     r =
     cases met a same r
   where
-    new : {m : Trial} → Attempted σ k q first e m grown' newest' → m ≢ Skipped → of' ≡ Some (task σ e)
-        → Kept σ p of' e grown' newest'
+    new : {m : Trial} → Attempted σ k q first e m grown' → m ≢ Skipped → of' ≡ Some (task σ e)
+        → Kept σ p of' e grown'
     new a n r = record {
       again = λ t i.
           let u : task σ e ≡ t = cc in (e, h, omega arith, u, rw (← s) (a.grows n));
     }
 
-    cases : (m : Trial) → Attempted σ k q first e m grown' newest'
-        → (m ≡ Skipped → (grown' ≡ grown) × (newest' ≡ newest)) → of' ≡ reused_after σ of m e
-        → Kept σ p of' e grown' newest'
+    cases : (m : Trial) → Attempted σ k q first e m grown'
+        → (m ≡ Skipped → grown' ≡ grown) → of' ≡ reused_after σ of m e
+        → Kept σ p of' e grown'
     cases Success a same r = new a (λ n. cc) r
     cases Failure a same r = new a (λ n. cc) r
     cases TaskFailure a same r = new a (λ n. cc) r
     cases Skipped a same r = record {
       again = λ t i.
-          let (g, n) = same refl in
           let (c, low, less, own, before) = z.again t (sym r ∙ i) in
-          (c, low, omega arith, own, rw (g, n) before);
+          (c, low, omega arith, own, rw (same refl) before);
     }

@@ -1,30 +1,16 @@
--- The state of the search: the tables that it reads, and the chain that it extends.
+-- The state of the search: the chain that it extends.
 use Rattle.std.specs.Prelude.{ℕ, ◌+◌, ◌-◌, ◌≤◌, ◌<◌, ◌≡◌, ◌≢◌, true, List, [], ◌∷◌, ◌++◌, T, length, get_or}
 use Rattle.std.specs.Prelude.{take}
 use Rattle.model.specs.Lists.{all}
 use Rattle.model.specs.Trace.{Trace, is_event, is_acquire}
-use Rattle.model.specs.Recording.{decode_all}
 use Rattle.model.specs.Pattern.{largest_pattern, is_deadlock}
-use Rattle.model.specs.Calls.Check.{check_events}
-use Rattle.laws.specs.Sizes.{records_length}
 use Rattle.laws.specs.Chain.{Chain, signature, fits}
 use Rattle.laws.specs.Frontier.{Before}
 use Rattle.laws.specs.Walk.{branch}
 use Rattle.laws.specs.Returning.{Rooted}
-use Rattle.frontier.specs.Visit.{Needed}
-use Rattle.deadlock.specs.Judged.{Holding}
+use Rattle.frontier.specs.declared.Frontier.{Frontier}
 use Rattle.chain.specs.declared.Trial.{Trial}
 use Rattle.chain.specs.declared.Trial.TheVariants.{Success}
-use Rattle.pruning.specs.Linked.{Linked, Marked}
-
--- Records of accepted events, and the tables of them.
-pub record Ready (b holding predecessors writers matches next blocks : List ℕ) : Type 0 where
-  pub short : length b ≤ records_length
-  pub accepted : (check_events (decode_all b)).refusal ≡ 0
-  pub holds : Holding (decode_all b) holding
-  pub needed : Needed (decode_all b) predecessors writers matches
-  pub linked : Linked (decode_all b) next
-  pub marked : Marked (decode_all b) blocks
 
 -- The chain of the first `len` events of a path, with these tasks and held locks.
 abbrev pub chain_at : List ℕ → ℕ → ℕ → ℕ → Chain
@@ -37,19 +23,19 @@ chain_at path len tasks guards = record {
 }
 
 -- A chain that may be extended by `left` events, with the frontier of its predecessors' closure.
-pub record Open (σ : Trace) (path : List ℕ) (len left tasks guards : ℕ) (front latest : List ℕ) : Type 0 where
+pub record Open (σ : Trace) (path : List ℕ) (len left tasks guards : ℕ) (frontier : Frontier) : Type 0 where
   pub long : length path ≡ largest_pattern
   pub some : 1 ≤ len
   pub sized : len + left ≤ largest_pattern
   pub events : T (all (is_event σ) (take len path))
   pub acquires : T (is_acquire σ (get_or path (len - 1) 0))
   pub rooted : Rooted σ (chain_at path len tasks guards)
-  pub before : Before σ (take len path) front latest
+  pub before : Before σ (take len path) frontier.front frontier.latest
 
 -- Event e, which fits an open chain, attempted with at most k more: with success the events are a deadlock so
 -- far, and the frontier is that of all their predecessors; otherwise it adds nothing.
 pub record Descending (σ : Trace) (path : List ℕ) (len k tasks guards e : ℕ) (met : Trial)
-    (front latest : List ℕ) : Type 0 where
+    (frontier : Frontier) : Type 0 where
   pub long : length path ≡ largest_pattern
   pub some : 1 ≤ len
   pub sized : len + k < largest_pattern
@@ -58,5 +44,5 @@ pub record Descending (σ : Trace) (path : List ℕ) (len k tasks guards e : ℕ
   pub event : (1 ≤ e) × (e ≤ length σ)
   pub follows : fits (signature σ) (chain_at path len tasks guards) e ≡ true
   pub deadlock : met ≡ Success → is_deadlock σ (take len path ++ e ∷ []) ≡ true
-  pub before : met ≡ Success → Before σ (take len path ++ e ∷ []) front latest
+  pub before : met ≡ Success → Before σ (take len path ++ e ∷ []) frontier.front frontier.latest
   pub dropped : met ≢ Success → branch σ k (chain_at path len tasks guards) e ≡ []

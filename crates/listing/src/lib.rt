@@ -9,106 +9,30 @@ ghost use Rattle.model.specs.Answers.{listed_of};
 ghost use Rattle.model.specs.Recording.{decode_all};
 ghost use Rattle.model.specs.Pattern.{largest_pattern};
 ghost use Rattle.model.specs.Listing.{deadlocks};
-ghost use Rattle.model.specs.Calls.Check.{check_events};
 ghost use Rattle.model.specs.Calls.List.{list, list_out};
-ghost use Rattle.laws.specs.Sizes.{records_length};
-ghost use Rattle.listing.specs.Open.{Ready};
 ghost use Rattle.listing.specs.Delivered.{Delivered};
 ghost use Rattle.listing.specs.Size.{asked_size};
 
 use entries::{Found, Full};
 use model::{Entries, Question, Refusal};
+use pruning::Links;
+use relations::Trace;
 
 // Lists the deadlocks of at most `largest` events into the output, where all their entries fit it; else it
 // writes nothing. Only a listing of more than 65,536 bytes is searched for twice.
-fn deliver(
-    records: &[u8],
-    holding: &[u64],
-    predecessors: &[u16],
-    writers: &[u16],
-    matches: &[u16],
-    next: &[u16],
-    blocks: &[u64],
-    largest: usize,
-    out: &mut [u8],
-) -> Result<Found, Full>
-    requires { Ready records.now holding.now predecessors.now writers.now matches.now
-        next.now blocks.now
-        × (2 ≤ largest) × (largest ≤ largest_pattern) }
-    ensures { Delivered (deadlocks (decode_all records.now) largest) out.old
+fn deliver(links: &Links, largest: usize, out: &mut [u8]) -> Result<Found, Full>
+    requires { (2 ≤ largest) × (largest ≤ largest_pattern) }
+    ensures { Delivered (deadlocks (decode_all links.now.trace.now.records.now) largest) out.old
         out.new result }
 {
     let mut buffer = [0u8; 65536];
-    let found = search::search_all(
-        records,
-        holding,
-        predecessors,
-        writers,
-        matches,
-        next,
-        blocks,
-        largest,
-        &mut buffer,
-        out.len(),
-    )?;
+    let found = search::search_all(links, largest, &mut buffer, out.len())?;
     let bytes = found.bytes;
     if 65536 < bytes {
-        return search::search_all(
-            records,
-            holding,
-            predecessors,
-            writers,
-            matches,
-            next,
-            blocks,
-            largest,
-            out,
-            out.len(),
-        );
+        return search::search_all(links, largest, out, out.len());
     }
     out[..bytes].copy_from_slice(&buffer[..bytes]);
     Ok(found)
-}
-
-// Lists into the output with tables of its own.
-fn list_records(records: &[u8], largest: usize, out: &mut [u8]) -> Result<Found, Full>
-    requires { (length records.now ≤ records_length) × ((check_events (decode_all records.now)).refusal ≡ 0)
-        × (2 ≤ largest) × (largest ≤ largest_pattern) }
-    ensures { Delivered (deadlocks (decode_all records.now) largest) out.old
-        out.new result }
-{
-    let mut operations = [0u8; 4096];
-    let mut tasks = [0u8; 4096];
-    let mut objects = [0u16; 4096];
-    let mut holding = [0u64; 4096];
-    let mut predecessors = [0u16; 4112];
-    let mut writers = [0u16; 4096];
-    let mut matches = [0u16; 4096];
-    relations::fill_tables(
-        records,
-        &mut operations,
-        &mut tasks,
-        &mut objects,
-        &mut holding,
-        &mut predecessors,
-        &mut writers,
-        &mut matches,
-    );
-    let mut next = [0u16; 4096];
-    pruning::link_nested(records, &holding, &mut next);
-    let mut blocks = [0u64; 64];
-    pruning::mark_blocks(records, &holding, &next, &mut blocks);
-    deliver(
-        records,
-        &holding,
-        &predecessors,
-        &writers,
-        &matches,
-        &next,
-        &blocks,
-        largest,
-        out,
-    )
 }
 
 // The largest size that the argument asks for, 16 where it is 0: question 8.
@@ -129,7 +53,8 @@ pub fn list(recording: &[u8], largest: u64, out: &mut [u8]) -> Result<Entries, R
 {
     recording::check(recording)?;
     let size = size_of(largest)?;
-    match list_records(&recording[2..], size, out) {
+    let trace = Trace::read(recording);
+    match deliver(&Links::new(&trace), size, out) {
         Ok(found) => Ok(Entries {
             patterns: found.patterns as u64,
             bytes: found.bytes as u64,

@@ -2,13 +2,11 @@
 -- Assumes nothing.
 use Prim.Native.Nat.{◌≤◌}
 use mathlib.Core.Path.{◌≡◌, sym}
-use borrow.Author.Rules.{rules}
 use Rattle.model.specs.Refused.{refusal}
 use Rattle.model.specs.Calls.Questions.{outcome, permits_size}
 use Rattle.model.specs.Calls.Check.{check}
 use Rattle.model.specs.Calls.List.{largest_size}
 use Rattle.laws.proofs.Results.{passed_on, is_refused, is_passed}
-use Rattle.laws.proofs.Questions.{check_bytes, part-trace, part_small, part_accepted}
 use Rattle.listing.proofs.Answers.{size_refused, size_permitted, list_unchecked, list_size, list_short}
 use Rattle.listing.proofs.Answers.{list_written}
 use Rattle.listing.proofs.list.Goals as goal
@@ -41,25 +39,13 @@ returns-in_err-size c =
     c.from_residual-in_err-size.ensures.1 in
     record { answer = rw (given, q) (sym x); output = sym y }
 
-pub slice_bounds-list_records-count : goal.slice_bounds-list_records-count
-slice_bounds-list_records-count c =
-    (check_bytes c.args.recording.now (accepted (goal.at.slice_bounds-list_records-count c).In_ok-check)).0
+pub read-trace-requires : goal.read-trace-requires
+read-trace-requires c = accepted (goal.at.read-trace-requires c).In_ok-check
 
-pub slice_bounds-list_records-start : goal.slice_bounds-list_records-start
-slice_bounds-list_records-start c =
-    let h = (check_bytes c.args.recording.now
-    (accepted (goal.at.slice_bounds-list_records-start c).In_ok-check)).0 in search rules
-
-pub list_records-requires : goal.list_records-requires
-list_records-requires c =
-    let b = c.args.recording.now in
-    let ok = accepted (goal.at.list_records-requires c).In_ok-check in
-    let size = permitted (goal.at.list_records-requires c).In_ok-size in (
-      part_small b ok (c.type_inv.recording 1).fits,
-      part_accepted b ok,
-      size.2,
-      size.3,
-    )
+pub deliver-requires : goal.deliver-requires
+deliver-requires c =
+    let size = permitted (goal.at.deliver-requires c).In_ok-size in
+    (size.2, size.3)
 
 pub returns-in-Ok : goal.returns-in-Ok
 returns-in-Ok c =
@@ -67,7 +53,7 @@ returns-in-Ok c =
     let size = permitted (goal.at.returns-in-Ok c).In_ok-size in
     let (x, y) = list_written b c.args.largest c.args.out.now
     (accepted (goal.at.returns-in-Ok c).In_ok-check) size.1 _
-    (rw (← (part-trace b), ← size.0) c.in-Ok.ensures) in
+    (rw (← c.read-trace.ensures.events, ← c.new.ensures, ← size.0) c.in-Ok.ensures) in
     record { answer = x; output = y }
 
 pub returns-in-Err : goal.returns-in-Err
@@ -76,5 +62,5 @@ returns-in-Err c =
     let size = permitted (goal.at.returns-in-Err c).In_ok-size in
     let (x, y) = list_short b c.args.largest c.args.out.now
     (accepted (goal.at.returns-in-Err c).In_ok-check) size.1 _
-    (rw (← (part-trace b), ← size.0) c.in-Err.ensures) in
+    (rw (← c.read-trace.ensures.events, ← c.new.ensures, ← size.0) c.in-Err.ensures) in
     record { answer = rw c.into.ensures (sym x); output = y }
