@@ -14,7 +14,7 @@ use Rattle.model.specs.Trace.{Trace, task, object, is_event}
 use Rattle.model.specs.Relations.{predecessor, held}
 use Rattle.model.specs.Pattern.{is_deadlock}
 use Rattle.laws.specs.Chain.{Chain, signature, add}
-use Rattle.laws.specs.Frontier.{Settled, wanted, Advanced, Before}
+use Rattle.laws.specs.Frontier.{wanted, Advanced, Before}
 use Rattle.laws.specs.Returning.{Returning}
 use Rattle.laws.proofs.Tests.{is_false, and_i, not-false, equal?}
 use Rattle.laws.proofs.Lists.{all_iff, all_append, all_fails}
@@ -123,12 +123,6 @@ kept? (Some u) t = ⊎_elim (λ (q : u ≡ t). inl (ap Some q)) (λ (d : u ≢ t
 
 module _ (σ : Trace) (of : Option ℕ) (e : ℕ) (frontier grown base : Frontier)
     (kept : of ≡ Some (task σ e) → base ≡ grown) (copied : of ≢ Some (task σ e) → base ≡ frontier) where
-  -- It is at rest.
-  pub grow_settled : Settled σ frontier.front frontier.front frontier.latest
-      → (of ≡ Some (task σ e) → Settled σ grown.front grown.front grown.latest)
-      → Settled σ base.front base.front base.latest
-  grow_settled z y = ⊎_elim (λ q. rw (kept q) (y q)) (λ d. rw (copied d) z) (kept? of (task σ e))
-
   -- Extended by the predecessor of e, it is that of the predecessors of the events and e.
   pub grow_reaches : WellFormed σ → (front' latest' : List ℕ) → 1 ≤ e → e ≤ length σ
       → Advanced σ (wanted σ base.front (predecessor σ e)) front' latest' → (p : List ℕ)

@@ -15,8 +15,8 @@ ghost use Rattle.chain.specs.Attempted.{Reusable, Attempted, excluded_after, reu
 use frontier::Frontier;
 use relations::Trace;
 
-// What is found of an acquire after the events of a path: with them it is a deadlock so far; it leads nowhere;
-// nor do the later events of its task; or it leads nowhere, and its closure was not asked for.
+// What is found of an acquire after the events of a path: with them it is a deadlock so far; it leads
+// nowhere; nor do the later events of its task; or it leads nowhere, and its closure was not asked for.
 #[derive(Clone, Copy, Debug, PartialEq, Eq, Hash)]
 pub enum Trial {
     Success,
@@ -39,7 +39,7 @@ fn renew(trace: &Trace, frontier: &Frontier, grown: &mut Frontier, of: Option<u8
 
 // The frontier of the predecessors of some events and e: from that of the events, or where `of` is the task
 // of e from that of the events and an earlier one of this task.
-pub fn grow(trace: &Trace, frontier: &Frontier, grown: &mut Frontier, of: Option<u8>, e: usize)
+fn grow(trace: &Trace, frontier: &Frontier, grown: &mut Frontier, of: Option<u8>, e: usize)
     requires { Settled (decode_all trace.now.records.now) frontier.now.front frontier.now.front
         frontier.now.latest
         × (of ≡ Some (task (decode_all trace.now.records.now) e)
@@ -53,8 +53,8 @@ pub fn grow(trace: &Trace, frontier: &Frontier, grown: &mut Frontier, of: Option
     grown.extend(trace, e);
 }
 
-// Attempts the acquire e after the events of the path, with at most k more after it. The frontier becomes that
-// of the closure of their predecessors, unless e is skipped: then it is as before.
+// Attempts the acquire e after the events of the path, with at most k more after it. The frontier becomes
+// that of the closure of their predecessors, unless e is skipped: then it is as before.
 pub fn attempt(
     trace: &Trace,
     back: &[u64],

@@ -140,7 +140,8 @@ module _ {σ : Trace} {k : ℕ} {c : Chain} {room : ℕ} where
           ])
 
           rest : (m : Trial) → Attempted σ k p c.first e m grown
-              → excluded' ≡ excluded_after σ excluded m e → (g : ℕ) → e < g → g ≤ length σ → passes σ c excluded' g ≡ false → branch σ k c g ≡ []
+              → excluded' ≡ excluded_after σ excluded m e → (g : ℕ) → e < g → g ≤ length σ
+              → passes σ c excluded' g ≡ false → branch σ k c g ≡ []
           rest Success t q g h i m = more g h i (rw q at m)
           rest Failure t q g h i m = more g h i (rw q at m)
           rest Skipped t q g h i m = more g h i (rw q at m)

@@ -98,8 +98,8 @@ step_end {σ} {left} h z y = let s : left ≡ suc (left - 1) = omega arith in rw
 
 -- ---- the frontier that is kept
 
--- Where a task's frontier is kept, it is that of the events p and an event of this task, at the latest the one
--- at a place.
+-- Where a task's frontier is kept, it is that of the events p and an event of this task, at the latest the
+-- one at a place.
 pub record Kept (σ : Trace) (p : List ℕ) (of : Option ℕ) (at : ℕ) (grown : Frontier) : Type 0 where
   pub again : (t : ℕ) → of ≡ Some t
       → (d : ℕ) × (1 ≤ d) × (d ≤ at) × (task σ d ≡ t) × Before σ (p ++ d ∷ []) grown.front grown.latest

@@ -99,7 +99,8 @@ descend-returns-clause-kept t c =
 pub descend-returns-clause-adds : goal.descend-returns-clause-adds
 descend-returns-clause-adds t c =
     rw (
-      descend_longer c.requires.0 c.in-Success.is c.requires.1 (sym c.completes.ensures ∙ c.if-completes.false),
+      descend_longer c.requires.0 c.in-Success.is c.requires.1
+          (sym c.completes.ensures ∙ c.if-completes.false),
       ← c.with_task.ensures,
       ← c.held.ensures,
     ) c.extend.ensures.adds

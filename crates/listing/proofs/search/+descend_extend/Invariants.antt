@@ -24,8 +24,9 @@ abbrev pub invariant-extend-loop-e : goal.invariant-extend-loop-e
 invariant-extend-loop-e l =
     (length l.path ≡ largest_pattern) × (take l.len l.path ≡ take l.len l.initial.path)
     × (length l.out ≡ length l.initial.out)
-    × Scanning (decode_all l.search.links.now.trace.now.records.now) (l.left - 1) (chain_at l.initial.path l.len l.masks.tasks l.masks.guards) l.search.room
-    l.excluded l.at l.initial.out l.out l.initial.taken l.taken
+    × Scanning (decode_all l.search.links.now.trace.now.records.now) (l.left - 1)
+    (chain_at l.initial.path l.len l.masks.tasks l.masks.guards) l.search.room l.excluded l.at l.initial.out
+    l.out l.initial.taken l.taken
     × Kept (decode_all l.search.links.now.trace.now.records.now) (take l.len l.initial.path) l.of l.at l.grown
 
 -- The events after those.
