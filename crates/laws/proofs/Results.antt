@@ -1,5 +1,5 @@
--- What a `?` returns where it passes on an error of the same type, and what a result says of the check that
--- it tells. Assumes nothing.
+-- What a `?` returns where it passes on an error of the same type, and what a result says of the check that it
+-- tells. Assumes nothing.
 use Rattle.std.specs.Prelude.{ℕ, ◌≤◌, ◌≡◌, ◌≢◌, List, length, Result, Ok, Err, refl}
 use Rattle.std.specs.Result.{IsErrAnd}
 use mathlib.Core.Path.{ap, sym, ◌∙◌}
@@ -27,6 +27,5 @@ pub is_passed : (a : Unit {0}) (o : Outcome) → outcome_of {A = Unit {0}} (Ok a
 is_passed a o q = sym (ap (λ (x : Outcome). x.refusal) q)
 
 -- So the recording has the two bytes of its header.
-pub passed_bytes : (b : List ℕ) → ◌≡◌ {A = Outcome} (record { refusal = 0; event = 0 }) (check b)
-    → 2 ≤ length b
+pub passed_bytes : (b : List ℕ) → ◌≡◌ {A = Outcome} (record { refusal = 0; event = 0 }) (check b) → 2 ≤ length b
 passed_bytes b q = (check_bytes b (is_passed tt _ q)).0
