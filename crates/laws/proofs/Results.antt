@@ -1,14 +1,12 @@
 -- What a `?` returns where it passes on an error of the same type, and what a result says of the check that it
 -- tells. Assumes nothing.
-use Rattle.std.specs.Prelude.{ℕ, ◌≤◌, ◌≡◌, ◌≢◌, List, length, Result, Ok, Err, refl}
+use Rattle.std.specs.Prelude.{◌≡◌, ◌≢◌, Result, Ok, Err, refl}
 use Rattle.std.specs.Result.{IsErrAnd}
 use mathlib.Core.Path.{ap, sym, ◌∙◌}
 use native.Mathlib.Omega.{arith}
 use Rattle.model.specs.declared.Refusal.{Refusal}
 use Rattle.model.specs.Answers.{Outcome, outcome_of}
-use Rattle.model.specs.Calls.Check.{check}
 use Rattle.laws.proofs.Numbers.{number_positive}
-use Rattle.laws.proofs.Questions.{check_bytes}
 
 -- It is that error.
 pub passed_on : {T E : Type 0} (r : Result T E) (q : E) → IsErrAnd r (λ x. x ≡ q) → r ≡ Err q
@@ -25,7 +23,3 @@ is_refused r o q n =
 -- and what is no error none.
 pub is_passed : (a : Unit {0}) (o : Outcome) → outcome_of {A = Unit {0}} (Ok a) ≡ o → o.refusal ≡ 0
 is_passed a o q = sym (ap (λ (x : Outcome). x.refusal) q)
-
--- So the recording has the two bytes of its header.
-pub passed_bytes : (b : List ℕ) → ◌≡◌ {A = Outcome} (record { refusal = 0; event = 0 }) (check b) → 2 ≤ length b
-passed_bytes b q = (check_bytes b (is_passed tt _ q)).0

@@ -73,7 +73,6 @@ fn percentage(h: u64, n: u64) -> u64
 }
 
 // The load of one lock: question 14, then the per cent of events after which it is held.
-#[tactic(auto, using(laws::proofs::Results::passed_bytes))]
 pub fn load(recording: &[u8], lock: u64) -> Result<u64, Refusal>
     ensures { load_of result ≡ load recording.now lock }
 {

@@ -219,7 +219,6 @@ impl<'a> Trace<'a> {
 }
 
 // The relations of one event: question 9, then its held locks and their count, match, writer and predecessor.
-#[tactic(auto, using(laws::proofs::Results::passed_bytes))]
 pub fn relations(recording: &[u8], event: u64) -> Result<Related, Refusal>
     ensures { relations_of result ≡ relations recording.now event }
 {
