@@ -67,7 +67,12 @@ fn put_refusal(text: &mut String, refusal: Refusal) -> Result<(), AllocError>
         ++ codes "refused " ++ decimal (number refusal.question)
         ++ codes " at " ++ decimal refusal.event ++ codes "\n") }
 {
-    writeln!(text, "refused {} at {}", refusal.question.number(), refusal.event)
+    writeln!(
+        text,
+        "refused {} at {}",
+        refusal.question.number(),
+        refusal.event
+    )
 }
 
 // The listing that the lines show: pairs alone, which readers of lockreport like.
