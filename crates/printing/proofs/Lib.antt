@@ -1,2 +1,0 @@
--- What proofs of this crate's functions cite, and of those that use them.
-pub mod Digits
