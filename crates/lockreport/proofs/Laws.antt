@@ -30,20 +30,35 @@ module _ (b p : List ℕ) (ps : List (List ℕ)) (q : b ≡ entries (p ∷ ps)) 
       let end : 2 * length p + 2 ≡ length entry = omega (arith, encode-length (length p ∷ p)) in
       ap (λ (k : ℕ). drop k b) end ∙ ap (drop (length entry)) q ∙ drop-append_seam entry (entries ps)
 
--- From the first entry to the others.
-pub first_entry : (b : List ℕ) → 0 < length b → Entries b
-    → (2 * get_or (numbers b) 0 0 + 2 ≤ length b) × Entries (drop (2 * get_or (numbers b) 0 0 + 2) b)
-first_entry b h e = next e.patterns e.are
-  where
-    next : (ps : List (List ℕ)) → b ≡ entries ps
-        → (2 * get_or (numbers b) 0 0 + 2 ≤ length b) × Entries (drop (2 * get_or (numbers b) 0 0 + 2) b)
-    next [] q = absurd (omega (arith, h, ap length q))
-    next (p ∷ ps) q =
-        let size = ap length q ∙ entries-length p ps in
-        rw (entry_size b p ps q (omega (arith, size))) (
-          omega (arith, size),
-          record { patterns = ps; are = entry_rest b p ps q },
-        )
+module _ (b : List ℕ) (h : 0 < length b) (e : Entries b) where
+  -- Entries that are not empty begin with a size,
+  pub size_within : 2 ≤ length b
+  size_within = within e.patterns e.are
+    where
+      within : (ps : List (List ℕ)) → b ≡ entries ps → 2 ≤ length b
+      within [] q = absurd (omega (arith, h, ap length q))
+      within (p ∷ ps) q = omega (arith, ap length q ∙ entries-length p ps)
+
+  -- which counts the event numbers behind it,
+  pub entry_within : 2 * get_or (numbers b) 0 0 + 2 ≤ length b
+  entry_within = within e.patterns e.are
+    where
+      within : (ps : List (List ℕ)) → b ≡ entries ps → 2 * get_or (numbers b) 0 0 + 2 ≤ length b
+      within [] q = absurd (omega (arith, h, ap length q))
+      within (p ∷ ps) q =
+          rw (entry_size b p ps q size_within) (omega (arith, ap length q ∙ entries-length p ps))
+
+  -- and what is behind these are entries.
+  pub others_are : Entries (drop (2 * get_or (numbers b) 0 0 + 2) b)
+  others_are = are e.patterns e.are
+    where
+      are : (ps : List (List ℕ)) → b ≡ entries ps → Entries (drop (2 * get_or (numbers b) 0 0 + 2) b)
+      are [] q = absurd (omega (arith, h, ap length q))
+      are (p ∷ ps) q =
+          rw (entry_size b p ps q size_within) (record { patterns = ps; are = entry_rest b p ps q })
+
+-- What the proof of a function that parts them cites.
+pub ruleset first_entry = (size_within, entry_within, others_are)
 
 -- A listing that is not refused leaves entries in front of the output, as many bytes of them as it says.
 pub listed_front : (b out out' : List ℕ) (k : ℕ) (r : Listed) → r ≡ list b k (length out)

@@ -25,6 +25,7 @@ fn put_pattern(text: &mut String, events: &[u8]) -> Result<(), AllocError> {
 }
 
 // Parts entries into the event numbers of the first, behind its size, and the other entries.
+#[tactic(auto, using(crate::proofs::Laws::first_entry))]
 fn split_entry(entries: &[u8]) -> (&[u8], &[u8])
     requires some { 0 < length entries.now }
     requires entries { Entries entries.now }
