@@ -3,8 +3,8 @@ use crate::spelling::{Fault, decode_bytes, decode_number};
 use crate::{calls, text};
 use std::alloc::{AllocError, Global};
 
-// Makes the call that a line asks for, and puts its answer. No call takes more than three arguments, so what is
-// behind the fourth word stays in one piece.
+// Makes the call that a line asks for, and puts its answer. No call takes more than three arguments, so what
+// is behind the fourth word stays in one piece.
 fn answer_call(alloc: Global, line: &[u8], text: &mut String) -> Result<(), Fault> {
     let line = str::from_utf8(line)?;
     let words: Vec<&str> = line.splitn(5, ' ').collect(alloc)?;

@@ -13,8 +13,8 @@ pub enum Ending {
     Input,
 }
 
-// Reads a line in place of what `line` has: up to a line feed, which is not kept, to the end of the input or a
-// read that fails, or until it is too long. It has to have room for so many bytes, so only a read can fail.
+// Reads a line in place of what `line` has: up to a line feed, which is not kept, to the end of the input or
+// a read that fails, or until it is too long. It has to have room for so many bytes, so only a read can fail.
 pub fn read_line(reader: &mut impl BufRead, line: &mut Vec<u8>) -> Ending {
     line.clear();
     let mut front = reader.by_ref().take(TOO_LONG as u64);
