@@ -49,6 +49,6 @@ pub fn answer(alloc: Global, line: &[u8], text: &mut String) -> Result<(), Alloc
     match answer_call(alloc, line, text) {
         Ok(()) => Ok(()),
         Err(Fault::BadRequest) => text::put_bad(text),
-        Err(Fault::OutOfMemory) => Err(AllocError),
+        Err(Fault::OutOfMemory(error)) => Err(error),
     }
 }

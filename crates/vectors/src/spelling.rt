@@ -10,12 +10,12 @@ pub enum Fault {
     // It is no request.
     BadRequest,
     // There is no memory for its arguments or its answer.
-    OutOfMemory,
+    OutOfMemory(AllocError),
 }
 
 impl From<AllocError> for Fault {
-    fn from(_: AllocError) -> Fault {
-        Fault::OutOfMemory
+    fn from(error: AllocError) -> Fault {
+        Fault::OutOfMemory(error)
     }
 }
 
@@ -32,11 +32,8 @@ impl From<ParseIntError> for Fault {
 }
 
 impl From<FromHexError> for Fault {
-    fn from(error: FromHexError) -> Fault {
-        match error {
-            FromHexError::OutOfMemory => Fault::OutOfMemory,
-            _ => Fault::BadRequest,
-        }
+    fn from(_: FromHexError) -> Fault {
+        Fault::BadRequest
     }
 }
 
@@ -48,7 +45,9 @@ pub fn decode_bytes(alloc: Global, word: &str) -> Result<Vec<u8>, Fault> {
     if word.is_empty() || word.bytes().any(|digit| digit.is_ascii_uppercase()) {
         return Err(Fault::BadRequest);
     }
-    Ok(hex::decode(alloc, word)?)
+    let mut bytes = vec![in alloc; 0; word.len() / 2]?;
+    hex::decode_to_slice(word, &mut bytes)?;
+    Ok(bytes)
 }
 
 // The number of 64 bits that a word spells: decimal digits, without a sign or a zero in front.
