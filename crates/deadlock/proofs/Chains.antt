@@ -17,7 +17,7 @@ use Rattle.model.specs.Pattern.{is_pattern}
 use Rattle.model.specs.Trace.{Trace, locks, at, task, object, is_event, is_acquire}
 use Rattle.model.specs.Recording.{decode_all}
 use Rattle.model.specs.Relations.{held}
-use Rattle.laws.specs.Chain.{Chain, signature, start, add, fits, completing, chain_of}
+use Rattle.laws.specs.Chain.{Chain, signature, start, add, fits, closes, completing}
 use Rattle.laws.proofs.Tests.{parts, decided, is_true, is_false, tests}
 use Rattle.laws.proofs.Bytes.{numbers-length}
 use Rattle.laws.proofs.Pattern.{is_pattern_iff}
@@ -45,24 +45,23 @@ module _ (σ : Trace) (ok : WellFormed σ) (e : ℕ) {op : ℕ} (is_op : op ≡ 
     acquires_own a l p =
         rw (p, q, acquire_outer σ ok e op is_op, a, lt-ltb (object σ e) locks (rw q at l))
 
-module _ (σ : Trace) (last tasks guards e : ℕ) {h : ℕ} (is_held_lem : h ≡ held σ e) where
+module _ (σ : Trace) (c : Chain) (e : ℕ) {h : ℕ} (is_held_lem : h ≡ held σ e) where
   -- The last event's lock must be held.
-  pub fits_lock : has_bit h (object σ last) ≡ false
-      → false ≡ fits (signature σ) (chain_of 0 last tasks guards) e
+  pub fits_lock : has_bit h (object σ c.last) ≡ false → false ≡ fits (signature σ) c e
   fits_lock n = rw (← is_held_lem, n, and-false)
 
   module _ {t : ℕ} (is-task : t ≡ task σ e) where
     -- The task must be new.
-    pub fits-task : has_bit tasks t ≡ true → false ≡ fits (signature σ) (chain_of 0 last tasks guards) e
+    pub fits-task : has_bit c.tasks t ≡ true → false ≡ fits (signature σ) c e
     fits-task y = rw (← is-task, y, and-false)
 
     -- No guard may be held.
-    pub fits_guards : bit_and guards h ≢ 0 → false ≡ fits (signature σ) (chain_of 0 last tasks guards) e
-    fits_guards d = rw (← is_held_lem, ne_eqb (bit_and guards h) 0 d, and-false)
+    pub fits_guards : bit_and c.guards h ≢ 0 → false ≡ fits (signature σ) c e
+    fits_guards d = rw (← is_held_lem, ne_eqb (bit_and c.guards h) 0 d, and-false)
 
     -- The rest is that the event is an acquire.
-    pub fits_acquire : has_bit h (object σ last) ≡ true → has_bit tasks t ≡ false → bit_and guards h ≡ 0
-        → is_acquire σ e ≡ fits (signature σ) (chain_of 0 last tasks guards) e
+    pub fits_acquire : has_bit h (object σ c.last) ≡ true → has_bit c.tasks t ≡ false → bit_and c.guards h ≡ 0
+        → is_acquire σ e ≡ fits (signature σ) c e
     fits_acquire y n z =
         decided (is_acquire σ e) (λ a. rw (a, ← is_held_lem, ← is-task, y, n, z)) (λ a. rw a)
 
@@ -96,12 +95,12 @@ joins-event b c e y =
 
 -- ---- the numbers of a pattern, one after the other
 
-module _ (σ : Trace) (ns : List ℕ) (a last tasks guards i : ℕ) (inside : i < length ns) where
+module _ (σ : Trace) (ns : List ℕ) (c : Chain) (i : ℕ) (inside : i < length ns) where
   -- What is left to ask of the numbers from place i on.
-  next : (c : Chain) → completing σ c (drop i ns)
+  pub completing_next : completing σ c (drop i ns)
       ≡ (joins σ c (get_or ns i 0) && completing σ (add (signature σ) c (get_or ns i 0)) (drop (i + 1) ns))
   unfolding joins
-  next c =
+  completing_next =
       ap (completing σ c) (drop-cons ns i 0 inside ∙ ap (λ (n : ℕ). get_or ns i 0 ∷ drop n ns)
       (sym (add-one i)))
       ∙ completing_cons σ c (get_or ns i 0) (drop (i + 1) ns)
@@ -113,28 +112,10 @@ module _ (σ : Trace) (ns : List ℕ) (a last tasks guards i : ℕ) (inside : i 
       joined true false z w = refl
       joined false y z w = refl
 
-  -- A number that does not join completes nothing.
-  pub completing_unfit : joins σ (chain_of a last tasks guards) (get_or ns i 0) ≡ false
-      → completing σ (chain_of a last tasks guards) (drop i ns) ≡ false
-  completing_unfit h = next (chain_of a last tasks guards) ∙ rw h
-
-  -- One that joins leaves the rest to complete the longer chain.
-  pub completing_fit : (e t g : ℕ) → e ≡ get_or ns i 0 → joins σ (chain_of a last tasks guards) e ≡ true
-      → t ≡ bit_or tasks (2 ^ task σ e) → g ≡ bit_or guards (held σ e)
-      → completing σ (chain_of a e t g) (drop (i + 1) ns)
-      ≡ completing σ (chain_of a last tasks guards) (drop i ns)
-  completing_fit e t g q y r s = rw (r, s, q) (sym (next (chain_of a last tasks guards) ∙ rw (rw q at y)))
-
--- The chain of one event, by what code reads of it.
-pub completing-start : (σ : Trace) (a t g : ℕ) (q : List ℕ) → t ≡ 2 ^ task σ a → g ≡ held σ a
-    → completing σ (chain_of a a t g) q ≡ completing σ (start (signature σ) a) q
-completing-start σ a t g q r s = rw (r, s)
-
 -- Where no number is left, the last event's lock decides.
-pub completing_last : (σ : Trace) (ns : List ℕ) (a last tasks guards i : ℕ) → length ns ≤ i
-    → completing σ (chain_of a last tasks guards) (drop i ns) ≡ has_bit (held σ a) (object σ last)
-completing_last σ ns a last tasks guards i h =
-    rw (drop_of_length-le ns h) (completing_end σ (chain_of a last tasks guards))
+pub completing_last : (σ : Trace) (ns : List ℕ) (c : Chain) (i : ℕ) → length ns ≤ i
+    → completing σ c (drop i ns) ≡ closes (signature σ) c
+completing_last σ ns c i h = rw (drop_of_length-le ns h) (completing_end σ c)
 
 -- ---- question 10
 

@@ -44,22 +44,22 @@ module _ (ns out : List ℕ) (n : ℕ) (count : n ≡ length ns) where
 
 module _ (σ : Trace) (p out : List ℕ) where
   -- What is answered and what is written by what is decided: of bytes that are no pattern,
-  pub witness_from-none : None ≡ judged σ p
+  pub witness_from-none : judged σ p ≡ None
       → (refused_witness 10 0 ≡ witness_from σ p (length out)) × (out ≡ witness_out_from σ p out)
   unfolding witness_from witness_out_from
-  witness_from-none q = (rw (← q), rw (← q))
+  witness_from-none q = (rw q, rw q)
 
   -- of a pattern with the verdict "not",
-  pub witness_from-not : Some Not ≡ judged σ p
+  pub witness_from-not : judged σ p ≡ Some Not
       → (refused_witness 0 0 ≡ witness_from σ p (length out)) × (out ≡ witness_out_from σ p out)
   unfolding witness_from witness_out_from
-  witness_from-not q = (rw (← q), rw (← q))
+  witness_from-not q = (rw q, rw q)
 
   -- and of a deadlock, whose schedule is delivered from the frontier of its predecessors.
-  pub witness_from_deadlock : Some Deadlock ≡ judged σ p → (front : List ℕ) → Reached σ (numbers p) front
+  pub witness_from_deadlock : judged σ p ≡ Some Deadlock → (front : List ℕ) → Reached σ (numbers p) front
       → (answer_by (Some Deadlock) (delivered (encode (behind σ front)) (length out))
       ≡ witness_from σ p (length out))
       × (delivered_out (encode (behind σ front)) out ≡ witness_out_from σ p out)
   unfolding witness_from witness_out_from
   witness_from_deadlock q front z =
-      let same = behind_schedule σ (numbers p) front z in (rw (← q, same), rw (← q, same))
+      let same = behind_schedule σ (numbers p) front z in (rw (q, same), rw (q, same))

@@ -1,6 +1,8 @@
 -- Question 10's test of each number, what is decided of a lent pattern, and the events in the set of a frontier.
 use Rattle.std.specs.Prelude.{ℕ, ◌+◌, ◌-◌, ◌<◌, ◌≤◌, ◌≡◌, Bool, cond, ◌&&◌, List, [], ◌∷◌, leb, ltb, length}
-use Rattle.std.specs.Prelude.{get_or, Option, Some, None}
+use Rattle.std.specs.Prelude.{get_or, Option, Some, None, Result, Ok, Err}
+use Rattle.model.specs.declared.Question.{Question}
+use Rattle.model.specs.declared.Question.TheVariants.{Pattern}
 use Rattle.model.specs.declared.Verdict.{Verdict}
 use Rattle.model.specs.declared.Verdict.TheVariants.{Not, Deadlock}
 use Rattle.model.specs.Lists.{filter, from}
@@ -9,6 +11,12 @@ use Rattle.model.specs.Trace.{Trace, tasks, task, is_event}
 use Rattle.model.specs.Pattern.{is_pattern, is_deadlock}
 use Rattle.laws.specs.Chain.{Chain, signature, fits}
 use Rattle.laws.specs.Frontier.{FrontOf}
+use Rattle.frontier.specs.declared.Frontier.{Frontier}
+use Rattle.deadlock.specs.declared.Chain.{Chain as Kept}
+
+-- The chain of these events, of which the code keeps so much.
+abbrev pub of_events : List ℕ → Kept → Chain
+of_events p c = record { events = p; first = c.first; last = c.last; tasks = c.tasks; guards = c.guards }
 
 -- Event e may come next in a chain that may become a pattern: an event later than the first one, which fits.
 unfoldable pub joins : Trace → Chain → ℕ → Bool
@@ -24,6 +32,13 @@ judged σ p =
 pub record Reached (σ : Trace) (p front : List ℕ) : Type 0 where
   pub long : length front ≡ tasks
   pub members : FrontOf σ p front
+
+-- What is said of the bytes of a pattern: that they are none, that the verdict is "not", or that it is deadlock,
+-- with the frontier of the closure of the predecessors.
+abbrev pub Decided : Trace → List ℕ → Result (Option Frontier) Question → Type 0
+Decided σ p (Err q) = (q ≡ Pattern) × (judged σ p ≡ None)
+Decided σ p (Ok None) = judged σ p ≡ Some Not
+Decided σ p (Ok (Some f)) = (judged σ p ≡ Some Deadlock) × Reached σ (numbers p) f.front
 
 -- Whatever is given by the places of a list below `count`, its length, are the numbers there.
 abbrev pub Gives : (ℕ → ℕ → Type 0) → ℕ → List ℕ → Type 0

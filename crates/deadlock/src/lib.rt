@@ -2,8 +2,8 @@
 // schedule that witnesses it. A pattern's numbers are two bytes each.
 #![tactic(auto)]
 
-ghost use Rattle.std.specs.Prelude.{ℕ, ◌+◌, ◌*◌, ◌/◌, ◌^◌, ◌<◌, ◌≤◌, ◌≡◌, not, ◌&&◌, List, [], T, leb};
-ghost use Rattle.std.specs.Prelude.{length, get_or, drop, replicate, Some};
+ghost use Rattle.std.specs.Prelude.{ℕ, ◌+◌, ◌*◌, ◌/◌, ◌^◌, ◌<◌, ◌≤◌, ◌≡◌, not, ◌&&◌, List, [], ◌∷◌, ◌++◌, T};
+ghost use Rattle.std.specs.Prelude.{leb, length, get_or, drop, replicate};
 ghost use Rattle.std.specs.Int.Bits.{bit_or};
 ghost use Rattle.std.proofs.lemmas.List.Edits.{sets};
 ghost use Rattle.model.specs.Lists.{all, has_bit};
@@ -15,17 +15,26 @@ ghost use Rattle.model.specs.Pattern.{is_pattern};
 ghost use Rattle.model.specs.Calls.Verdict.{verdict};
 ghost use Rattle.model.specs.Calls.Witness.{witness, witness_out};
 ghost use Rattle.laws.specs.Sizes.{table_length};
-ghost use Rattle.model.specs.declared.Verdict.TheVariants.{Deadlock};
 ghost use Rattle.model.specs.Answers.{verdict_of, witness_of};
-ghost use Rattle.laws.specs.Chain.{signature, start, fits, completing, chain_of};
+ghost use Rattle.laws.specs.Chain.{signature, start, add, fits, closes, completing};
 ghost use Rattle.laws.specs.Frontier.{Before};
-ghost use Rattle.deadlock.specs.Judged.{joins, judged, Reached, Gives, behind_at, behind};
+ghost use Rattle.deadlock.specs.Judged.{of_events, joins, Decided, Gives, behind_at, behind};
 ghost use Rattle.deadlock.specs.Delivered.{delivered, delivered_out, witness_from, witness_out_from};
 
 use frontier::Frontier;
 use model::{Question, Refusal, Verdict};
 use recording::Op;
 use relations::Trace;
+
+// A chain of outer acquires, by what decides which event may follow: its first and its last one, and the masks
+// of its events' tasks and of their held locks.
+#[derive(Clone, Copy, Debug, PartialEq, Eq)]
+pub struct Chain {
+    pub first: usize,
+    pub last: usize,
+    pub tasks: u64,
+    pub guards: u64,
+}
 
 // The lock of the acquire e is in the mask.
 pub fn lock_in_mask(trace: &Trace, mask: u64, e: usize) -> bool
@@ -73,63 +82,99 @@ fn begins(trace: &Trace, e: usize) -> bool
     is_acquire(trace, trace.held(e), e)
 }
 
-// Event e may follow a chain that ends with the acquire `last`, of these tasks and with these held locks: it
-// is an acquire, its task is new, and its held locks have the last event's lock and none of the chain's.
-pub fn follows(trace: &Trace, last: usize, tasks: u64, guards: u64, e: usize) -> bool
-    requires { (1 ≤ last) × (2 * last ≤ length trace.now.records.now) × (1 ≤ e) × (2 * e ≤ length trace.now.records.now) × T (is_acquire (decode_all trace.now.records.now) last) }
-    ensures { result ≡ fits (signature (decode_all trace.now.records.now))
-        (chain_of 0 last tasks guards) e }
-{
-    let held = trace.held(e);
-    if !lock_in_mask(trace, held, last) {
-        return false;
+impl Chain {
+    // The chain of the acquire a.
+    pub fn start(trace: &Trace, a: usize) -> Chain
+        requires { (1 ≤ a) × (2 * a ≤ length trace.now.records.now) }
+        ensures { of_events (a ∷ []) result ≡ start (signature (decode_all trace.now.records.now)) a }
+    {
+        Chain {
+            first: a,
+            last: a,
+            tasks: with_task(trace, 0, a),
+            guards: trace.held(a),
+        }
     }
-    if recording::in_mask(tasks, trace.task(e) as u64) {
-        return false;
-    }
-    if guards & held != 0 {
-        return false;
-    }
-    is_acquire(trace, held, e)
-}
 
-// The number e may come next in a pattern that begins with a, after a chain that ends with the acquire
-// `last`: it is that of an event later than a, which may follow the chain.
-fn joins(trace: &Trace, a: usize, last: usize, tasks: u64, guards: u64, e: usize) -> bool
-    requires { (1 ≤ last) × (2 * last ≤ length trace.now.records.now) × T (is_acquire (decode_all trace.now.records.now) last) }
-    ensures { result ≡ joins (decode_all trace.now.records.now) (chain_of a last tasks guards) e }
-{
-    if e <= a {
-        return false;
+    // The chain and event e more.
+    pub fn add(&self, trace: &Trace, e: usize) -> Chain
+        requires { (1 ≤ e) × (2 * e ≤ length trace.now.records.now) }
+        ensures { (p : List ℕ) → of_events (p ++ e ∷ []) result
+            ≡ add (signature (decode_all trace.now.records.now)) (of_events p self.now) e }
+    {
+        Chain {
+            first: self.first,
+            last: e,
+            tasks: with_task(trace, self.tasks, e),
+            guards: self.guards | trace.held(e),
+        }
     }
-    if trace.len() < e {
-        return false;
+
+    // Event e may follow the chain: it is an acquire, its task is new, and its held locks have the last event's
+    // lock and none of the chain's.
+    pub fn follows(&self, trace: &Trace, e: usize) -> bool
+        requires { (1 ≤ self.now.last) × (2 * self.now.last ≤ length trace.now.records.now)
+            × T (is_acquire (decode_all trace.now.records.now) self.now.last)
+            × (1 ≤ e) × (2 * e ≤ length trace.now.records.now) }
+        ensures { result ≡ fits (signature (decode_all trace.now.records.now)) (of_events [] self.now) e }
+    {
+        let held = trace.held(e);
+        if !lock_in_mask(trace, held, self.last) {
+            return false;
+        }
+        if recording::in_mask(self.tasks, trace.task(e) as u64) {
+            return false;
+        }
+        if self.guards & held != 0 {
+            return false;
+        }
+        is_acquire(trace, held, e)
     }
-    follows(trace, last, tasks, guards, e)
+
+    // The number e may come next in a pattern that begins as the chain does: it is that of an event later than
+    // the first one, which may follow.
+    fn joins(&self, trace: &Trace, e: usize) -> bool
+        requires { (1 ≤ self.now.last) × (2 * self.now.last ≤ length trace.now.records.now)
+            × T (is_acquire (decode_all trace.now.records.now) self.now.last) }
+        ensures { result ≡ joins (decode_all trace.now.records.now) (of_events [] self.now) e }
+    {
+        if e <= self.first {
+            return false;
+        }
+        if trace.len() < e {
+            return false;
+        }
+        self.follows(trace, e)
+    }
+
+    // The chain is complete: the last event's lock is held at the first.
+    pub fn closes(&self, trace: &Trace) -> bool
+        requires { (1 ≤ self.now.first) × (2 * self.now.first ≤ length trace.now.records.now)
+            × (1 ≤ self.now.last) × (2 * self.now.last ≤ length trace.now.records.now)
+            × T (is_acquire (decode_all trace.now.records.now) self.now.last) }
+        ensures { result ≡ closes (signature (decode_all trace.now.records.now)) (of_events [] self.now) }
+    {
+        lock_in_mask(trace, trace.held(self.first), self.last)
+    }
 }
 
 // The numbers after the first complete the chain of the acquire a: each joins the chain before it, and the
-// last one's lock is held at the first.
+// last one closes it.
 fn completes(trace: &Trace, pattern: &[u8], a: usize) -> bool
     requires { (1 ≤ a) × (2 * a ≤ length trace.now.records.now) × T (is_acquire (decode_all trace.now.records.now) a)
         × (2 ≤ length pattern.now) }
     ensures { result ≡ completing (decode_all trace.now.records.now)
         (start (signature (decode_all trace.now.records.now)) a) (drop 1 (numbers pattern.now)) }
 {
-    let held = trace.held(a);
-    let mut last = a;
-    let mut tasks = with_task(trace, 0, a);
-    let mut guards = held;
+    let mut chain = Chain::start(trace, a);
     for i in 1..pattern.len() / 2 {
         let e = recording::number(pattern, i) as usize;
-        if !joins(trace, a, last, tasks, guards, e) {
+        if !chain.joins(trace, e) {
             return false;
         }
-        last = e;
-        tasks = with_task(trace, tasks, e);
-        guards |= trace.held(e);
+        chain = chain.add(trace, e);
     }
-    lock_in_mask(trace, held, last)
+    chain.closes(trace)
 }
 
 // Question 10: the lent bytes are a deadlock pattern of the records, smallest event first.
@@ -186,26 +231,23 @@ pub fn avoids<F: Fn(usize) -> u16>(
     true
 }
 
-// Decides the lent bytes: no verdict where they are no pattern. Of a pattern the frontier becomes that of the
-// closure of its events' predecessors.
-pub fn decide(trace: &Trace, pattern: &[u8], frontier: &mut Frontier) -> Option<Verdict>
-    ensures decided { result ≡ judged (decode_all trace.now.records.now) pattern.now }
-    ensures reached { result ≡ Some Deadlock
-        → Reached (decode_all trace.now.records.now) (numbers pattern.now) frontier.new.front }
+// Decides the lent bytes: question 10, and of a deadlock the frontier of the closure of its events' predecessors.
+pub fn decide(trace: &Trace, pattern: &[u8]) -> Result<Option<Frontier>, Question>
+    ensures { Decided (decode_all trace.now.records.now) pattern.now result }
 {
     if !lends_pattern(trace, pattern) {
-        return None;
+        return Err(Question::Pattern);
     }
-    *frontier = reach(trace, pattern);
+    let frontier = reach(trace, pattern);
     if avoids(
         trace,
         pattern.len() / 2,
         |i| recording::number(pattern, i),
-        frontier,
+        &frontier,
     ) {
-        return Some(Verdict::Deadlock);
+        return Ok(Some(frontier));
     }
-    Some(Verdict::Not)
+    Ok(None)
 }
 
 // The verdict of a lent pattern: the recording's questions, question 10, then whether the closure of its
@@ -214,8 +256,10 @@ pub fn verdict(recording: &[u8], pattern: &[u8]) -> Result<Verdict, Refusal>
     ensures { verdict_of result ≡ verdict recording.now pattern.now }
 {
     recording::check(recording)?;
-    let trace = Trace::read(recording);
-    decide(&trace, pattern, &mut Frontier::empty()).ok_or(Question::Pattern.into())
+    match decide(&Trace::read(recording), pattern)? {
+        Some(_) => Ok(Verdict::Deadlock),
+        None => Ok(Verdict::Not),
+    }
 }
 
 // How many events are in the set of the frontier.
@@ -284,11 +328,9 @@ fn witness_trace(trace: &Trace, pattern: &[u8], out: &mut [u8]) -> Result<Option
         (length out.old) }
     ensures output { out.new ≡ witness_out_from (decode_all trace.now.records.now) pattern.now out.old }
 {
-    let mut frontier = Frontier::empty();
-    match decide(trace, pattern, &mut frontier) {
-        None => Err(Question::Pattern.into()),
-        Some(Verdict::Not) => Ok(None),
-        Some(Verdict::Deadlock) => Ok(Some(deliver(trace, &frontier, out)?)),
+    match decide(trace, pattern)? {
+        None => Ok(None),
+        Some(frontier) => Ok(Some(deliver(trace, &frontier, out)?)),
     }
 }
 

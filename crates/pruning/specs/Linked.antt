@@ -1,13 +1,13 @@
 -- The acquires that can stand in a pattern, as links from each event to the next of them and by the locks
 -- that are held in blocks of 64 events.
-use Rattle.std.specs.Prelude.{ℕ, ◌/◌, ◌≤◌, ◌≡◌, ◌≢◌, Bool, not, ◌&&◌, cond, List, T, eqb, length, get_or}
+use Rattle.std.specs.Prelude.{ℕ, ◌-◌, ◌/◌, ◌≤◌, ◌≡◌, ◌≢◌, Bool, false, not, ◌&&◌, cond, List, T, eqb, length, get_or}
 use Rattle.std.specs.Prelude.{Option, Some, None}
 use Rattle.model.specs.Lists.{has_bit}
-use Rattle.model.specs.Trace.{Trace, tasks, is_acquire}
+use Rattle.model.specs.Trace.{Trace, tasks, object, is_acquire}
 use Rattle.model.specs.Relations.{held}
 use Rattle.laws.specs.Sizes.{table_length}
 use Rattle.laws.specs.Walk.{First}
-use Rattle.laws.specs.Returning.{Covers}
+use Rattle.laws.specs.Returning.{Covers, Returning}
 
 -- An outer acquire at which its task holds a lock: another one, then.
 abbrev pub is_nested : Trace → ℕ → Bool
@@ -45,3 +45,16 @@ Earliest p n e (Some x) = (x ≢ 0) × First p n e x
 abbrev pub number_of : Option ℕ → ℕ
 number_of None = tasks
 number_of (Some t) = t
+
+-- No chain of at most `count` events that begins with event a returns to it: its lock is not among those that
+-- lead back.
+pub record Unreturned (σ : Trace) (a count : ℕ) : Type 0 where
+  pub back : List ℕ
+  pub returning : Returning σ a count back
+  pub apart : has_bit (get_or back (count - 1) 0) (object σ a) ≡ false
+
+-- The ways back to event a of the chains of at most `count` events that begin with it, or none where they do not
+-- return.
+abbrev pub WaysBack : Trace → ℕ → ℕ → Option (List ℕ) → Type 0
+WaysBack σ a count None = Unreturned σ a count
+WaysBack σ a count (Some back) = Returning σ a count back

@@ -3,17 +3,19 @@
 // lead back to the first event.
 #![tactic(auto)]
 
-ghost use Rattle.std.specs.Prelude.{ℕ, ◌+◌, ◌-◌, ◌*◌, ◌<◌, ◌≤◌, ◌≡◌, cond, T, length, get_or};
+ghost use Rattle.std.specs.Prelude.{ℕ, ◌+◌, ◌-◌, ◌*◌, ◌<◌, ◌≤◌, ◌≡◌, [], cond, T, length, get_or};
 ghost use Rattle.model.specs.Lists.{has_bit};
 ghost use Rattle.model.specs.Trace.{locks, task, object, is_acquire};
 ghost use Rattle.model.specs.Relations.{held};
 ghost use Rattle.model.specs.Recording.{decode_all};
 ghost use Rattle.model.specs.Pattern.{largest_pattern};
 ghost use Rattle.laws.specs.Sizes.{table_length};
-ghost use Rattle.laws.specs.Chain.{signature, fits, chain_of};
-ghost use Rattle.laws.specs.Returning.{Covers, Led, Leading, Spread, Returning};
-ghost use Rattle.pruning.specs.Linked.{is_nested, event_of, number_of, Linked, Marked, is_near, Earliest};
+ghost use Rattle.laws.specs.Chain.{signature, fits};
+ghost use Rattle.laws.specs.Returning.{Covers, Led, Leading, Spread};
+ghost use Rattle.deadlock.specs.Judged.{of_events};
+ghost use Rattle.pruning.specs.Linked.{is_nested, event_of, number_of, Linked, Marked, is_near, Earliest, WaysBack};
 
+use deadlock::Chain;
 use relations::Trace;
 
 // An accepted recording with the links of its events: of each event, and of number 0, the first nested
@@ -43,21 +45,22 @@ fn nested_or(trace: &Trace, e: usize, later: u16) -> u16
 }
 
 // Links each event, and number 0, to the first nested acquire after it, from the last event down.
-fn link_nested(trace: &Trace, next: &mut [u16])
-    requires { length next.old ≡ table_length }
-    ensures { Linked (decode_all trace.now.records.now) next.new }
+fn link_nested(trace: &Trace) -> [u16; 4096]
+    ensures { Linked (decode_all trace.now.records.now) result }
 {
+    let mut next = [0; 4096];
     let mut top = 0;
     for e in (1..trace.len() + 1).rev() {
         next[e] = top;
         top = nested_or(trace, e, top);
     }
     next[0] = top;
+    next
 }
 
 // The event to which the table links event e, or number 0, if any.
-fn linked(next: &[u16], e: usize) -> Option<usize>
-    requires { e < length next.now }
+fn linked(next: &[u16; 4096], e: usize) -> Option<usize>
+    requires { e < table_length }
     ensures { result ≡ event_of (get_or next.now e 0) }
 {
     match next[e] {
@@ -67,19 +70,28 @@ fn linked(next: &[u16], e: usize) -> Option<usize>
 }
 
 // Marks for each 64 events in turn the locks that are held at their acquires.
-fn mark_blocks(trace: &Trace, next: &[u16], blocks: &mut [u64])
-    requires { Linked (decode_all trace.now.records.now) next.now × (length blocks.old ≡ 64) }
-    ensures { Marked (decode_all trace.now.records.now) blocks.new }
+fn mark_blocks(trace: &Trace, next: &[u16; 4096]) -> [u64; 64]
+    requires { Linked (decode_all trace.now.records.now) next.now }
+    ensures { Marked (decode_all trace.now.records.now) result }
 {
+    let mut blocks = [0; 64];
     let mut at = 0;
     while let Some(e) = linked(next, at) {
         blocks[e / 64] |= trace.held(e);
         at = e;
     }
+    blocks
 }
 
 // Notes the held locks of the acquire e with its lock, unless its task is t or it holds a guard.
-fn note_lead(trace: &Trace, a: usize, t: Option<u8>, guards: u64, lead: &mut [u64], e: usize)
+fn note_lead(
+    trace: &Trace,
+    a: usize,
+    t: Option<u8>,
+    guards: u64,
+    lead: &mut [u64; 64],
+    e: usize,
+)
     requires { (1 ≤ e) × (2 * e ≤ length trace.now.records.now)
         × T (is_acquire (decode_all trace.now.records.now) e)
         × Led (decode_all trace.now.records.now) a e (number_of t) guards lead.old }
@@ -101,10 +113,8 @@ impl<'a> Links<'a> {
     pub fn new(trace: &'a Trace<'a>) -> Links<'a>
         ensures { result.trace.now ≡ trace.now }
     {
-        let mut next = [0; 4096];
-        link_nested(trace, &mut next);
-        let mut blocks = [0; 64];
-        mark_blocks(trace, &next, &mut blocks);
+        let next = link_nested(trace);
+        let blocks = mark_blocks(trace, &next);
         Links {
             trace,
             next,
@@ -141,20 +151,18 @@ impl<'a> Links<'a> {
         None
     }
 
-    // The first event after e that may follow a chain that ends with the acquire `last`, of these tasks and
-    // with these held locks, if any.
-    pub fn following(&self, last: usize, tasks: u64, guards: u64, e: usize) -> Option<usize>
-        requires { (1 ≤ last) × (2 * last ≤ length self.now.trace.now.records.now)
+    // The first event after e that may follow a chain, if any.
+    pub fn following(&self, chain: &Chain, e: usize) -> Option<usize>
+        requires { (1 ≤ chain.now.last) × (2 * chain.now.last ≤ length self.now.trace.now.records.now)
             × (2 * e ≤ length self.now.trace.now.records.now)
-            × T (is_acquire (decode_all self.now.trace.now.records.now) last) }
-        ensures { Earliest
-            (fits (signature (decode_all self.now.trace.now.records.now)) (chain_of 0 last tasks guards))
+            × T (is_acquire (decode_all self.now.trace.now.records.now) chain.now.last) }
+        ensures { Earliest (fits (signature (decode_all self.now.trace.now.records.now)) (of_events [] chain.now))
             (length (decode_all self.now.trace.now.records.now)) e result }
     {
-        let l = self.trace.object(last) as u64;
+        let l = self.trace.object(chain.last) as u64;
         let mut at = e;
         while let Some(x) = self.hop(l, at) {
-            if deadlock::follows(self.trace, last, tasks, guards, x) {
+            if chain.follows(self.trace, x) {
                 return Some(x);
             }
             at = x;
@@ -164,21 +172,23 @@ impl<'a> Links<'a> {
 
     // For each lock, the locks that are held at its acquires after event a, by other tasks than t, if any,
     // and with none of the guards.
-    pub fn note_leads(&self, a: usize, t: Option<u8>, guards: u64, lead: &mut [u64])
-        requires { (2 * a ≤ length self.now.trace.now.records.now) × (length lead.old ≡ locks) }
-        ensures { Leading (decode_all self.now.trace.now.records.now) a (number_of t) guards lead.new }
+    pub fn leads(&self, a: usize, t: Option<u8>, guards: u64) -> [u64; 64]
+        requires { 2 * a ≤ length self.now.trace.now.records.now }
+        ensures { Leading (decode_all self.now.trace.now.records.now) a (number_of t) guards result }
     {
+        let mut lead = [0; 64];
         let mut at = a;
         while let Some(e) = self.link(at) {
-            note_lead(self.trace, a, t, guards, lead, e);
+            note_lead(self.trace, a, t, guards, &mut lead, e);
             at = e;
         }
+        lead
     }
 }
 
 // The mask, and where it has lock m also the locks that lead there.
-fn widen_by(lead: &[u64], mask: u64, m: usize, wide: u64) -> u64
-    requires { (m < locks) × (length lead.now ≡ locks) }
+fn widen_by(lead: &[u64; 64], mask: u64, m: usize, wide: u64) -> u64
+    requires { m < locks }
     ensures { Covers wide result × (T (has_bit mask m) → Covers (get_or lead.now m 0) result) }
 {
     if recording::in_mask(mask, m as u64) {
@@ -188,8 +198,7 @@ fn widen_by(lead: &[u64], mask: u64, m: usize, wide: u64) -> u64
 }
 
 // The mask with the locks that lead to its own.
-fn widen(lead: &[u64], mask: u64) -> u64
-    requires { length lead.now ≡ locks }
+fn widen(lead: &[u64; 64], mask: u64) -> u64
     ensures { Covers mask result × ((m : ℕ) → m < locks → T (has_bit mask m)
         → Covers (get_or lead.now m 0) result) }
 {
@@ -202,30 +211,31 @@ fn widen(lead: &[u64], mask: u64) -> u64
 
 // The locks from which a chain may return to the held locks of its first event by at most 0, 1 and so on to
 // count - 1 more events.
-fn fill_back(lead: &[u64], held: u64, back: &mut [u64], count: usize)
-    requires { (length lead.now ≡ locks) × (length back.old ≡ largest_pattern) × (1 ≤ count)
-        × (count ≤ largest_pattern) }
-    ensures { Spread lead.now count back.new
-        × (get_or back.new 0 0 ≡ held) }
+fn fill_back(lead: &[u64; 64], held: u64, count: usize) -> [u64; 16]
+    requires { (1 ≤ count) × (count ≤ largest_pattern) }
+    ensures { Spread lead.now count result × (get_or result 0 0 ≡ held) }
 {
+    let mut back = [0; 16];
     back[0] = held;
     for i in 1..count {
         back[i] = widen(lead, back[i - 1]);
     }
+    back
 }
 
-// Whether a chain of at most `count` events that begins with the acquire a may return to it, with the locks
-// that lead back after each number of events more.
-pub fn leads_back(trace: &Trace, lead: &[u64], a: usize, back: &mut [u64], count: usize) -> bool
+// The locks that lead back to the acquire a after each number of events more, unless no chain of at most `count`
+// events that begins with it may return to it.
+pub fn ways_back(trace: &Trace, lead: &[u64; 64], a: usize, count: usize) -> Option<[u64; 16]>
     requires { (1 ≤ a) × (2 * a ≤ length trace.now.records.now)
         × T (is_acquire (decode_all trace.now.records.now) a)
         × Leading (decode_all trace.now.records.now) a (task (decode_all trace.now.records.now) a)
         (held (decode_all trace.now.records.now) a) lead.now
-        × (length back.old ≡ largest_pattern) × (1 ≤ count) × (count ≤ largest_pattern) }
-    ensures { Returning (decode_all trace.now.records.now) a count back.new
-        × (result ≡ has_bit (get_or back.new (count - 1) 0)
-        (object (decode_all trace.now.records.now) a)) }
+        × (1 ≤ count) × (count ≤ largest_pattern) }
+    ensures { WaysBack (decode_all trace.now.records.now) a count result }
 {
-    fill_back(lead, trace.held(a), back, count);
-    deadlock::lock_in_mask(trace, back[count - 1], a)
+    let back = fill_back(lead, trace.held(a), count);
+    if !deadlock::lock_in_mask(trace, back[count - 1], a) {
+        return None;
+    }
+    Some(back)
 }

@@ -1,77 +1,68 @@
 -- `deadlock::completes` meets its contract: what is left completes the chain so far exactly where all does.
 -- Assumes nothing.
-use Prim.Native.Nat.{◌<◌}
-use mathlib.Core.Path.{sym, ap, ◌∙◌}
+use Prim.Native.Nat.{ℕ, ◌+◌, ◌<◌}
+use mathlib.Core.Bool.{◌&&◌}
+use mathlib.Core.Path.{◌≡◌, sym, ap, ◌∙◌}
 use native.Mathlib.Omega.{arith}
-use borrow.Author.Rules.{rules}
-use lib.Bits.{bit_or}
-use lib.ListN.{length, drop}
+use lib.ListN.{length, get_or, drop}
+use Rattle.std.specs.Prelude.{[]}
 use Rattle.model.specs.Bytes.{numbers}
 use Rattle.model.specs.Recording.{decode_all}
+use Rattle.deadlock.specs.Judged.{of_events, joins}
+use Rattle.laws.specs.Chain.{Chain, signature, add, completing}
 use Rattle.laws.proofs.Bytes.{numbers-length}
 use Rattle.laws.proofs.Trace.{decode_all-length}
-use Rattle.deadlock.proofs.Chains.{joins-event, completing_unfit, completing_fit, completing-start}
-use Rattle.deadlock.proofs.Chains.{completing_last}
+use Rattle.deadlock.proofs.Chains.{joins-event, completing_next, completing_last}
 use Rattle.deadlock.proofs.completes.Goals as goal
+use Rattle.deadlock.proofs.completes.Goals.{After-number-e}
 
 pub loop-i-init : goal.loop-i-init
 loop-i-init c =
-    let b = c.args.trace.now.records.now in
-    let a = c.args.a in
-    let size = decode_all-length b in (
-      c.requires.0,
-      c.requires.1,
-      c.requires.2,
-      completing-start (decode_all b) a _ _ (drop 1 (numbers c.args.pattern.now))
-          c.with_task-tasks.ensures c.held-held.ensures,
+    let is = c.start-chain.ensures in
+    let last = ap (λ (x : Chain). x.last) is in (
+      ap (λ (x : Chain). x.first) is,
+      rw last c.requires.0,
+      rw last c.requires.1,
+      rw last c.requires.2,
+      ap (λ (x : Chain). completing (decode_all c.args.trace.now.records.now) x (drop 1 (numbers c.args.pattern.now))) is,
     )
+
+-- What the numbers from a place on must complete, by the next one.
+next : (c : goal.After-number-e) → completing (decode_all c.args.trace.now.records.now) (of_events [] c.loop-i.chain) (drop c.loop-i.i (numbers c.args.pattern.now))
+    ≡ (joins (decode_all c.args.trace.now.records.now) (of_events [] c.loop-i.chain) c.number-e.result
+    && completing (decode_all c.args.trace.now.records.now) (add (signature (decode_all c.args.trace.now.records.now)) (of_events [] c.loop-i.chain) c.number-e.result) (drop (c.loop-i.i + 1) (numbers c.args.pattern.now)))
+next c =
+    let size = numbers-length c.args.pattern.now in
+    rw c.number-e.ensures (completing_next (decode_all c.args.trace.now.records.now) (numbers c.args.pattern.now)
+    (of_events [] c.loop-i.chain) c.loop-i.i (omega (arith, c.loop-i-test.true)))
 
 pub returns-then-not-joins : goal.returns-then-not-joins
 returns-then-not-joins c =
-    let a = c.args in
-    let k = c.loop-i in
-    let size = numbers-length a.pattern.now in
-    let inside : k.i < length (numbers a.pattern.now) =
-    omega (arith, c.loop-i-test.true) in
-    let apart = sym c.joins.ensures ∙ c.if-not-joins.true in
-    rw (completing_unfit (decode_all a.trace.now.records.now) (numbers a.pattern.now) a.a k.last k.tasks
-    k.guards k.i inside (rw c.number-e.ensures at apart)) at k.invariant.3
+    let no = sym c.joins.ensures ∙ c.if-not-joins.true in
+    sym (rw no at (next (goal.at.returns-then-not-joins c).After-number-e)) ∙ c.loop-i.invariant.4
 
-pub with_task-tasks-requires-in-loop-i : goal.with_task-tasks-requires-in-loop-i
-with_task-tasks-requires-in-loop-i c =
-    let z = joins-event _ _ _ (sym c.joins.ensures ∙ c.if-not-joins.false) in (z.0, z.1)
-
-pub held-guards-requires : goal.held-guards-requires
-held-guards-requires c =
+pub add-chain-requires : goal.add-chain-requires
+add-chain-requires c =
     let z = joins-event _ _ _ (sym c.joins.ensures ∙ c.if-not-joins.false) in (z.0, z.1)
 
 pub loop-i-preserved : goal.loop-i-preserved
 loop-i-preserved c =
-    let s = c
-    in
-    let k = c.loop-i in
-    let b = s.args.trace.now.records.now in
-    let size = decode_all-length b in
-    let count = numbers-length s.args.pattern.now in
-    let more = c.loop-i-test.true in
-    let joined = sym c.joins.ensures ∙ c.if-not-joins.false in
-    let z = joins-event b _ _ joined in (
-      z.0,
-      z.1,
-      z.2,
-      completing_fit (decode_all b) (numbers s.args.pattern.now) s.args.a k.last k.tasks
-          k.guards k.i (omega arith) _ _ _ c.number-e.ensures joined
-          c.with_task-tasks-in-loop-i.ensures
-          (ap (bit_or k.guards) c.held-guards.ensures) ∙ k.invariant.3,
+    let yes = sym c.joins.ensures ∙ c.if-not-joins.false in
+    let z = joins-event c.args.trace.now.records.now _ _ yes in
+    let is = c.add-chain.ensures [] in
+    let last = ap (λ (x : Chain). x.last) is in (
+      ap (λ (x : Chain). x.first) is ∙ c.loop-i.invariant.0,
+      rw last z.0,
+      rw last z.1,
+      rw last z.2,
+      ap (λ (x : Chain). completing (decode_all c.args.trace.now.records.now) x (drop (c.loop-i.i + 1) (numbers c.args.pattern.now))) is
+          ∙ sym (rw yes at (next (goal.at.loop-i-preserved c).After-number-e)) ∙ c.loop-i.invariant.4,
     )
 
 pub returns : goal.returns
 returns c =
-    let a = c.args in
     let k = c.loop-i in
-    let size = decode_all-length a.trace.now.records.now in
-    let count = numbers-length a.pattern.now in
-    c.lock_in_mask.ensures
-    ∙ rw c.held-held.ensures
-    (sym (completing_last (decode_all a.trace.now.records.now) (numbers a.pattern.now) a.a k.last
-    k.tasks k.guards k.i (omega (arith, c.loop-i-test.false))) ∙ k.invariant.3)
+    let count = numbers-length c.args.pattern.now in
+    c.closes.ensures
+    ∙ sym (completing_last (decode_all c.args.trace.now.records.now) (numbers c.args.pattern.now)
+    (of_events [] k.chain) k.i (omega (arith, c.loop-i-test.false))) ∙ k.invariant.4

@@ -1,5 +1,6 @@
 -- `deadlock::completes` meets its contract: what is left completes the chain so far exactly where all does.
 -- Assumes nothing.
+use Rattle.std.specs.Prelude.{[]}
 use Prim.Native.Nat.{◌*◌, ◌≤◌}
 use mathlib.Core.Path.{◌≡◌}
 use lib.Dec.{T}
@@ -7,12 +8,14 @@ use lib.ListN.{length, drop}
 use Rattle.model.specs.Bytes.{numbers}
 use Rattle.model.specs.Trace.{is_acquire}
 use Rattle.model.specs.Recording.{decode_all}
-use Rattle.laws.specs.Chain.{signature, start, completing, chain_of}
+use Rattle.laws.specs.Chain.{signature, start, completing}
+use Rattle.deadlock.specs.Judged.{of_events}
 use Rattle.deadlock.proofs.completes.Given as goal
 
 abbrev pub invariant-loop-i : goal.invariant-loop-i
 invariant-loop-i l =
-    (1 ≤ l.last) × (2 * l.last ≤ length l.trace.records.now) × T (is_acquire (decode_all l.trace.records.now) l.last)
-    × (completing (decode_all l.trace.records.now) (chain_of l.a l.last l.tasks l.guards) (drop l.i (numbers l.pattern))
+    (l.chain.first ≡ l.a) × (1 ≤ l.chain.last) × (2 * l.chain.last ≤ length l.trace.records.now)
+    × T (is_acquire (decode_all l.trace.records.now) l.chain.last)
+    × (completing (decode_all l.trace.records.now) (of_events [] l.chain) (drop l.i (numbers l.pattern))
     ≡ completing (decode_all l.trace.records.now) (start (signature (decode_all l.trace.records.now)) l.a)
     (drop 1 (numbers l.pattern)))

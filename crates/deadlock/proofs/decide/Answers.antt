@@ -9,7 +9,6 @@ use Rattle.laws.proofs.Bytes.{numbers-length, numbers_inside}
 use Rattle.laws.proofs.Passing.{listed-event}
 use borrow.Author.Rules.{rules}
 use lib.ListN.{get_or}
-use Rattle.laws.proofs.Before.{before-start}
 use Rattle.laws.proofs.Pattern.{lent_events}
 use Rattle.deadlock.proofs.Verdicts.{judged-none, judged-verdict}
 use Rattle.deadlock.proofs.decide.Goals as goal
@@ -23,15 +22,17 @@ pattern-lent : (c : goal.Else-not-lends_pattern)
     ≡ true
 pattern-lent c = sym c.lends_pattern.ensures ∙ c.if-not-lends_pattern.false
 
-pub returns-then-not-lends_pattern-clause-decided : goal.returns-then-not-lends_pattern-clause-decided
-returns-then-not-lends_pattern-clause-decided c =
-    sym (judged-none (decode_all c.args.trace.now.records.now) c.args.pattern.now
-    (sym c.lends_pattern.ensures ∙ c.if-not-lends_pattern.true))
+pub returns-then-not-lends_pattern : goal.returns-then-not-lends_pattern
+returns-then-not-lends_pattern c = (
+  refl,
+  judged-none (decode_all c.args.trace.now.records.now) c.args.pattern.now
+      (sym c.lends_pattern.ensures ∙ c.if-not-lends_pattern.true),
+)
 
-pub reach-requires : goal.reach-requires
-reach-requires c =
+pub reach-frontier-requires : goal.reach-frontier-requires
+reach-frontier-requires c =
     lent_events (decode_all c.args.trace.now.records.now) c.args.pattern.now
-    (pattern-lent (goal.at.reach-requires c).Else-not-lends_pattern)
+    (pattern-lent (goal.at.reach-frontier-requires c).Else-not-lends_pattern)
 
 pub avoids-requires-clause-events : goal.avoids-requires-clause-events
 avoids-requires-clause-events c = λ i e h k.
@@ -47,19 +48,17 @@ pub returns-then-avoids : goal.returns-then-avoids
 returns-then-avoids c =
     let σ = decode_all c.args.trace.now.records.now in
     let p = c.args.pattern.now in
-    let z = c.reach.ensures in
-    let v = c.avoids.ensures (numbers p) (numbers-length p, λ i e h k. search rules) in record {
-      decided = sym (judged-verdict σ p
-          (pattern-lent (goal.at.returns-then-avoids c).Else-not-lends_pattern) _ _
-          true z (sym c.if-avoids.true ∙ v));
-      reached = λ _. record { long = z.settled.front_ok.long; members = z.members };
-    }
+    let z = c.reach-frontier.ensures in
+    let v = c.avoids.ensures (numbers p) (numbers-length p, λ i e h k. search rules) in (
+      judged-verdict σ p (pattern-lent (goal.at.returns-then-avoids c).Else-not-lends_pattern) _ _
+          true z (sym c.if-avoids.true ∙ v),
+      record { long = z.settled.front_ok.long; members = z.members },
+    )
 
-pub returns-clause-decided : goal.returns-clause-decided
-returns-clause-decided c =
+pub returns : goal.returns
+returns c =
     let σ = decode_all c.args.trace.now.records.now in
     let p = c.args.pattern.now in
     let v = c.avoids.ensures (numbers p) (numbers-length p, λ i e h k. search rules) in
-    sym (judged-verdict σ p
-    (pattern-lent (goal.at.returns-clause-decided c).Else-not-lends_pattern) _ _
-    false c.reach.ensures (sym c.if-avoids.false ∙ v))
+    judged-verdict σ p (pattern-lent (goal.at.returns c).Else-not-lends_pattern) _ _
+    false c.reach-frontier.ensures (sym c.if-avoids.false ∙ v)

@@ -3,6 +3,7 @@
 use mathlib.Core.Path.{◌≡◌, refl, sym}
 use borrow.Author.Rules.{rules}
 use Rattle.model.specs.Calls.Check.{check}
+use Rattle.model.specs.Refused.{refusal}
 use Rattle.laws.proofs.Results.{passed_on, is_refused, is_passed}
 use Rattle.laws.proofs.Questions.{check_bytes, part-trace, part_small, part_accepted}
 use Rattle.deadlock.proofs.Answers.{verdict_unchecked, verdict_accepted}
@@ -19,11 +20,22 @@ returns-in_err-check c =
     rw (passed_on c.from_residual.result _ c.from_residual.ensures.1)
     (sym (rw (← q) at (verdict_unchecked c.args.recording.now c.args.pattern.now (is_refused _ _ q))))
 
-pub read-trace-requires : goal.read-trace-requires
-read-trace-requires c = accepted (goal.at.read-trace-requires c).In_ok-check
+pub read-requires : goal.read-requires
+read-requires c = accepted (goal.at.read-requires c).In_ok-check
 
-pub returns : goal.returns
-returns c =
-    let is = rw c.read-trace.ensures.events at c.decide.ensures.decided in
-    rw (c.ok_or.ensures.value, c.into.ensures, is)
-    (verdict_accepted c.args.recording.now c.args.pattern.now (accepted (goal.at.returns c).In_ok-check))
+pub returns-in_err-decide : goal.returns-in_err-decide
+returns-in_err-decide c =
+    let (q, none) = rw c.read.ensures.events at c.in_err-decide.ensures in
+    let is = verdict_accepted c.args.recording.now c.args.pattern.now (accepted (goal.at.returns-in_err-decide c).In_ok-check) in
+    rw (passed_on c.from_residual-in_err-decide.result (refusal c.in_err-decide.field-0.0 0)
+    c.from_residual-in_err-decide.ensures.1, q) (rw none at is)
+
+pub returns-in-Some : goal.returns-in-Some
+returns-in-Some c =
+    let (some, z) = rw (c.in-Some.is, c.read.ensures.events) at c.in_ok-decide.ensures in
+    rw some at (verdict_accepted c.args.recording.now c.args.pattern.now (accepted (goal.at.returns-in-Some c).In_ok-check))
+
+pub returns-in-None : goal.returns-in-None
+returns-in-None c =
+    let none = rw (c.in-None.is, c.read.ensures.events) at c.in_ok-decide.ensures in
+    rw none at (verdict_accepted c.args.recording.now c.args.pattern.now (accepted (goal.at.returns-in-None c).In_ok-check))
