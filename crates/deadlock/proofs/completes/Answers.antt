@@ -1,17 +1,16 @@
 -- `deadlock::completes` meets its contract: what is left completes the chain so far exactly where all does.
 -- Assumes nothing.
-use Prim.Native.Nat.{ℕ, ◌+◌, ◌<◌}
+use Prim.Native.Nat.{◌+◌}
 use mathlib.Core.Bool.{◌&&◌}
 use mathlib.Core.Path.{◌≡◌, sym, ap, ◌∙◌}
 use native.Mathlib.Omega.{arith}
-use lib.ListN.{length, get_or, drop}
+use lib.ListN.{drop}
 use Rattle.std.specs.Prelude.{[]}
 use Rattle.model.specs.Bytes.{numbers}
 use Rattle.model.specs.Recording.{decode_all}
 use Rattle.deadlock.specs.Judged.{of_events, joins}
 use Rattle.laws.specs.Chain.{Chain, signature, add, completing}
 use Rattle.laws.proofs.Bytes.{numbers-length}
-use Rattle.laws.proofs.Trace.{decode_all-length}
 use Rattle.deadlock.proofs.Chains.{joins-event, completing_next, completing_last}
 use Rattle.deadlock.proofs.completes.Goals as goal
 use Rattle.deadlock.proofs.completes.Goals.{After-number-e}

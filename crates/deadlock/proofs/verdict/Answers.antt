@@ -1,11 +1,9 @@
 -- `deadlock::verdict` meets its contract: the recording's questions, then what is decided of the pattern.
 -- Assumes nothing.
-use mathlib.Core.Path.{◌≡◌, refl, sym}
-use borrow.Author.Rules.{rules}
+use mathlib.Core.Path.{◌≡◌, sym}
 use Rattle.model.specs.Calls.Check.{check}
 use Rattle.model.specs.Refused.{refusal}
 use Rattle.laws.proofs.Results.{passed_on, is_refused, is_passed}
-use Rattle.laws.proofs.Questions.{check_bytes, part-trace, part_small, part_accepted}
 use Rattle.deadlock.proofs.Answers.{verdict_unchecked, verdict_accepted}
 use Rattle.deadlock.proofs.verdict.Goals as goal
 use Rattle.deadlock.proofs.verdict.Goals.{In_ok-check}

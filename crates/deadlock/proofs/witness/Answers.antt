@@ -1,10 +1,8 @@
 -- `deadlock::witness` meets its contract: the recording's questions, then the records decide.
 -- Assumes nothing.
 use mathlib.Core.Path.{◌≡◌, sym, ◌∙◌}
-use borrow.Author.Rules.{rules}
 use Rattle.model.specs.Calls.Check.{check}
 use Rattle.laws.proofs.Results.{passed_on, is_refused, is_passed}
-use Rattle.laws.proofs.Questions.{check_bytes, part-trace, part_small, part_accepted}
 use Rattle.deadlock.proofs.Answers.{witness_unchecked, witness_accepted}
 use Rattle.deadlock.proofs.witness.Goals as goal
 use Rattle.deadlock.proofs.witness.Goals.{In_ok-check}

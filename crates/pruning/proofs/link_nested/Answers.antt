@@ -1,7 +1,8 @@
 -- `pruning::link_nested` meets its contract: the links of the events from e on are in the table. Assumes
 -- nothing.
-use Prim.Native.Nat.{◌-◌}
+use Prim.Native.Nat.{ℕ, ◌-◌}
 use native.Mathlib.Omega.{arith}
+use lib.ListN.{length-replicate}
 use Rattle.model.specs.Recording.{decode_all}
 use Rattle.laws.proofs.Trace.{decode_all-length}
 use Rattle.pruning.proofs.Nested.{linked_last, linked_before}
@@ -9,7 +10,7 @@ use Rattle.pruning.proofs.link_nested.Goals as goal
 
 pub loop-e-init : goal.loop-e-init
 loop-e-init c =
-    linked_last (decode_all c.args.trace.now.records.now) c.args.next.now c.requires _
+    linked_last (decode_all c.args.trace.now.records.now) _ (length-replicate {A = ℕ} 4096 0) _
     (omega (arith, c.len-e.ensures))
 
 pub loop-e-preserved : goal.loop-e-preserved

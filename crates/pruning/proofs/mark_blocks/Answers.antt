@@ -1,8 +1,8 @@
 -- `pruning::mark_blocks` meets its contract: the blocks of the events so far are marked. Assumes nothing.
-use Prim.Native.Nat.{◌/◌, ◌*◌, ◌≤◌, ◌<◌}
+use Prim.Native.Nat.{ℕ, ◌/◌, ◌*◌, ◌≤◌, ◌<◌}
 use mathlib.Core.Logic.{◌≢◌}
 use native.Mathlib.Omega.{arith}
-use lib.ListN.{length}
+use lib.ListN.{length, length-replicate}
 use Rattle.model.specs.Recording.{decode_all}
 use Rattle.laws.proofs.Trace.{decode_all-length}
 use Rattle.pruning.specs.Linked.{Link}
@@ -18,19 +18,19 @@ next : (c : In-Some) → let b = c.args.trace.now.records.now in
 next c =
     let b = c.args.trace.now.records.now in
     let l = c.loop-e in
-    let (d, y) = linked_earliest (decode_all b) c.args.next.now c.requires.0 l.at l.invariant.high _
+    let (d, y) = linked_earliest (decode_all b) c.args.next.now c.requires l.at l.invariant.high _
     c.in-Some.ensures in
     let e = y.passes d in
     let size = decode_all-length b in
     (d, y, omega (arith, e.0), omega (arith, e.1), omega (arith, e.1, c.args.trace.now.short))
 
 pub loop-e-init : goal.loop-e-init
-loop-e-init c = marking-start (decode_all c.args.trace.now.records.now) c.args.blocks.now c.requires.1
+loop-e-init c = marking-start (decode_all c.args.trace.now.records.now) _ (length-replicate {A = ℕ} 64 0)
 
 pub linked-requires : goal.linked-requires
 linked-requires c =
     let size = decode_all-length c.args.trace.now.records.now in
-    omega (arith, c.loop-e.invariant.high, c.requires.0.long, c.args.trace.now.short)
+    omega (arith, c.loop-e.invariant.high, c.requires.long, c.args.trace.now.short)
 
 pub held-requires : goal.held-requires
 held-requires c = let (d, y, low, high, block) = next (goal.at.held-requires c).In-Some in (low, high)

@@ -1,10 +1,6 @@
 -- `deadlock::Chain::follows` meets its contract: each return cites the law of its case. Assumes nothing.
-use mathlib.Core.Path.{◌≡◌, sym, ◌∙◌}
-use native.Mathlib.Omega.{arith}
-use lib.ListN.{get_or}
+use mathlib.Core.Path.{sym, ◌∙◌}
 use Rattle.model.specs.Recording.{decode_all}
-use Rattle.model.specs.Relations.{held}
-use Rattle.laws.proofs.Trace.{decode_all-length}
 use Rattle.std.specs.Prelude.{[]}
 use Rattle.deadlock.specs.Judged.{of_events}
 use Rattle.deadlock.proofs.Chains.{fits_lock, fits_guards, fits_acquire}

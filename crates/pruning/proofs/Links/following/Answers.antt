@@ -4,7 +4,9 @@ use mathlib.Core.Path.{◌≡◌, sym, ◌∙◌}
 use mathlib.Core.Bool.{false}
 use native.Mathlib.Omega.{arith}
 use Rattle.model.specs.Recording.{decode_all}
-use Rattle.laws.specs.Chain.{signature, fits, chain_of}
+use Rattle.std.specs.Prelude.{[]}
+use Rattle.laws.specs.Chain.{signature, fits}
+use Rattle.deadlock.specs.Judged.{of_events}
 use Rattle.laws.proofs.Trace.{decode_all-length}
 use Rattle.laws.proofs.Questions.{events_sound}
 use Rattle.laws.proofs.WellFormed.{acquire_lt}
@@ -18,11 +20,11 @@ use Rattle.pruning.proofs.Links.following.Goals.{After-object-l}
 far : (c : After-object-l) → let a = c.args in
     let σ = decode_all a.self.now.trace.now.records.now in (f : ℕ)
     → is_near σ a.self.now.blocks c.object-l.result f ≡ false
-    → fits (signature σ) (chain_of 0 a.last a.tasks a.guards) f ≡ false
+    → fits (signature σ) (of_events [] a.chain.now) f ≡ false
 far c f =
     let a = c.args in
     near_fits (decode_all a.self.now.trace.now.records.now) a.self.now.blocks a.self.now.marked
-    (chain_of 0 a.last a.tasks a.guards) c.object-l.result f c.object-l.ensures.1
+    (of_events [] a.chain.now) c.object-l.result f c.object-l.ensures.1
 
 pub loop-x-init : goal.loop-x-init
 loop-x-init c =
@@ -34,7 +36,7 @@ hop-requires c =
     let trace = c.args.self.now.trace.now in
     let b = trace.records.now in (
       rw c.object-l.ensures.1
-          (acquire_lt (decode_all b) (events_sound b trace.accepted) c.args.last c.requires.3),
+          (acquire_lt (decode_all b) (events_sound b trace.accepted) c.args.chain.now.last c.requires.3),
       omega (arith, c.loop-x.invariant.high, decode_all-length b),
     )
 
@@ -43,7 +45,7 @@ follows-requires c =
     let (d, y) = c.in-Some.ensures in
     let event = y.passes d in
     let size = decode_all-length c.args.self.now.trace.now.records.now in
-    (c.requires.0, c.requires.1, omega (arith, event.0), omega (arith, event.1), c.requires.3)
+    (c.requires.0, c.requires.1, c.requires.3, omega (arith, event.0), omega (arith, event.1))
 
 pub returns-then-follows : goal.returns-then-follows
 returns-then-follows c =

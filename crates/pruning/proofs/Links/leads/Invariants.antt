@@ -1,11 +1,11 @@
--- `pruning::note_leads` meets its contract: the acquires so far are noted, and all of them where no link
+-- `pruning::leads` meets its contract: the acquires so far are noted, and all of them where no link
 -- leads on. Assumes nothing.
 use Prim.Native.Nat.{◌+◌, ◌-◌, ◌≤◌}
 use lib.ListN.{length}
 use Rattle.model.specs.Recording.{decode_all}
 use Rattle.laws.specs.Returning.{Led}
 use Rattle.pruning.specs.Linked.{number_of}
-use Rattle.pruning.proofs.Links.note_leads.Given as goal
+use Rattle.pruning.proofs.Links.leads.Given as goal
 
 abbrev pub invariant-loop-e : goal.invariant-loop-e
 invariant-loop-e l =

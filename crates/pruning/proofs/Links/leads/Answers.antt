@@ -1,19 +1,21 @@
--- `pruning::note_leads` meets its contract: the acquires so far are noted, and all of them where no link
+-- `pruning::leads` meets its contract: the acquires so far are noted, and all of them where no link
 -- leads on. Assumes nothing.
+use Prim.Native.Nat.{ℕ}
 use native.Mathlib.Omega.{arith}
+use lib.ListN.{length-replicate}
 use Rattle.model.specs.Recording.{decode_all}
 use Rattle.laws.proofs.Trace.{decode_all-length}
 use Rattle.pruning.specs.Linked.{number_of}
 use Rattle.pruning.proofs.Nested.{nested_acquire}
 use Rattle.pruning.proofs.Leads.{led-start, led_link, led_end}
-use Rattle.pruning.proofs.Links.note_leads.Goals as goal
+use Rattle.pruning.proofs.Links.leads.Goals as goal
 
 pub loop-e-init : goal.loop-e-init
 loop-e-init c =
     let a = c.args in
     let b = a.self.now.trace.now.records.now in (
-      omega (arith, c.requires.0, decode_all-length b),
-      led-start (decode_all b) a.a (number_of a.t) a.guards a.lead.now c.requires.1,
+      omega (arith, c.requires, decode_all-length b),
+      led-start (decode_all b) a.a (number_of a.t) a.guards _ (length-replicate {A = ℕ} 64 0),
     )
 
 pub link-requires : goal.link-requires
