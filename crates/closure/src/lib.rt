@@ -37,8 +37,7 @@ fn spare_clear(set: &[u8], n: usize) -> bool
 }
 
 // Of each task the latest event that is in the set.
-fn wanted(trace: &Trace, words: &[u64]) -> [u16; 16]
-    requires { length words.now ≡ 64 }
+fn wanted(trace: &Trace, words: &[u64; 64]) -> [u16; 16]
     ensures { LatestEvents (λ f. row_bit 64 words.now (f - 1))
         (task (decode_all trace.now.records.now)) (length (decode_all trace.now.records.now) + 1) result }
 {
@@ -52,8 +51,7 @@ fn wanted(trace: &Trace, words: &[u64]) -> [u16; 16]
 }
 
 // The frontier of the closure of the set in the words.
-fn reach(trace: &Trace, words: &[u64]) -> Frontier
-    requires { length words.now ≡ 64 }
+fn reach(trace: &Trace, words: &[u64; 64]) -> Frontier
     ensures { Closes (decode_all trace.now.records.now) words.now result.front }
 {
     let mut frontier = Frontier::empty();
@@ -61,18 +59,19 @@ fn reach(trace: &Trace, words: &[u64]) -> Frontier
     frontier
 }
 
-// Puts the events of the frontier's set into an empty one.
-fn put_behind(trace: &Trace, frontier: &Frontier, words: &mut [u64])
-    requires { words.old ≡ replicate 64 0 }
-    ensures { (i : ℕ) → row_bit 64 words.new i
+// The set of the frontier.
+fn set_behind(trace: &Trace, frontier: &Frontier) -> [u64; 64]
+    ensures { (i : ℕ) → row_bit 64 result i
         ≡ (ltb i (length (decode_all trace.now.records.now))
         && leb (suc i) (get_or frontier.now.front (task (decode_all trace.now.records.now) (suc i)) 0)) }
 {
+    let mut words = [0; 64];
     for e in 1..trace.len() + 1 {
         if frontier.contains(trace, e) {
-            words::put(words, e);
+            words::put(&mut words, e);
         }
     }
+    words
 }
 
 // Closes a lent set: how many events that adds.
@@ -93,14 +92,14 @@ fn close_set(trace: &Trace, set: &mut [u8]) -> u64
     words::pack(set, &mut words);
     let before = words::count(&words);
     let frontier = reach(trace, &words);
-    let mut closed = [0; 64];
-    put_behind(trace, &frontier, &mut closed);
+    let closed = set_behind(trace, &frontier);
     let after = words::count(&closed);
     words::unpack(&closed, set);
     after - before
 }
 
 // The closure of a lent event set: questions 11 and 12, then the set is closed in place.
+#[tactic(auto, using(laws::proofs::Results::is_passed, laws::proofs::Results::passed_bytes))]
 pub fn close(recording: &[u8], set: &mut [u8]) -> Result<u64, Refusal>
     ensures answer { closed_of result ≡ close recording.now set.old }
     ensures output { set.new ≡ close_out recording.now set.old }

@@ -1,5 +1,5 @@
 -- Visiting one event: what it adds to the wanted events, and to the latest acquires.
-use Rattle.std.specs.Prelude.{ℕ, ◌<◌, ◌≤◌, min, ◌≡◌, cond, List, Option, Some, None, eqb, length, get_or}
+use Rattle.std.specs.Prelude.{ℕ, ◌<◌, ◌≤◌, min, cond, List, Option, Some, None, eqb, get_or}
 use Rattle.model.specs.Trace.{Trace, tasks, task, object, is_acquire}
 use Rattle.laws.specs.Order.{awaited}
 use Rattle.laws.specs.EventKinds.{marked}

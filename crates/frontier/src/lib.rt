@@ -30,8 +30,8 @@ fn raise(events: &mut [u16], i: usize, e: u16)
 }
 
 // Wants, in the task of event e, its match, or of one that does not count its own number.
-fn want_match(trace: &Trace, want: &mut [u16], e: u16)
-    requires { (1 ≤ e) × (2 * e ≤ length trace.now.records.now) × (length want.old ≡ tasks) }
+fn want_match(trace: &Trace, want: &mut [u16; 16], e: u16)
+    requires { (1 ≤ e) × (2 * e ≤ length trace.now.records.now) }
     ensures { want.new ≡ raised want.old (task (decode_all trace.now.records.now) e)
         (marked (decode_all trace.now.records.now) e) }
 {
@@ -40,8 +40,8 @@ fn want_match(trace: &Trace, want: &mut [u16], e: u16)
 }
 
 // Wants event x of whatever task, unless it is 0.
-fn want_event(trace: &Trace, want: &mut [u16], x: u16)
-    requires { (2 * x ≤ length trace.now.records.now) × (length want.old ≡ tasks) }
+fn want_event(trace: &Trace, want: &mut [u16; 16], x: u16)
+    requires { 2 * x ≤ length trace.now.records.now }
     ensures { want.new ≡ wanted (decode_all trace.now.records.now) want.old x }
 {
     if x == 0 {
@@ -52,9 +52,9 @@ fn want_event(trace: &Trace, want: &mut [u16], x: u16)
 
 // Visits the outer acquire f: notes it where it is later than the latest one of its lock that was visited
 // before, and wants the match of the earlier of the two, where there are two.
-fn visit_acquire(trace: &Trace, want: &mut [u16], latest: &mut [u16], f: u16)
-    requires { (1 ≤ f) × (2 * f ≤ length trace.now.records.now) × (length want.old ≡ tasks)
-        × (length latest.old ≡ locks) × (object (decode_all trace.now.records.now) f < locks) }
+fn visit_acquire(trace: &Trace, want: &mut [u16; 16], latest: &mut [u16; 64], f: u16)
+    requires { (1 ≤ f) × (2 * f ≤ length trace.now.records.now)
+        × (object (decode_all trace.now.records.now) f < locks) }
     ensures wanted { want.new ≡ wanted_earlier (decode_all trace.now.records.now)
         want.old (get_or latest.old (object (decode_all trace.now.records.now) f) 0) f }
     ensures latest { latest.new ≡ raised latest.old (object (decode_all trace.now.records.now) f) f }
@@ -70,9 +70,8 @@ fn visit_acquire(trace: &Trace, want: &mut [u16], latest: &mut [u16], f: u16)
 
 // Visits event f, which wants what it awaits, or is visited as an outer acquire. A start or an inner acquire,
 // which is marked by its own number, changes nothing.
-fn visit(trace: &Trace, want: &mut [u16], latest: &mut [u16], f: u16)
-    requires { (1 ≤ f) × (2 * f ≤ length trace.now.records.now) × (length want.old ≡ tasks)
-        × (length latest.old ≡ locks) }
+fn visit(trace: &Trace, want: &mut [u16; 16], latest: &mut [u16; 64], f: u16)
+    requires { (1 ≤ f) × (2 * f ≤ length trace.now.records.now) }
     ensures wanted { want.new ≡ wanted_with (decode_all trace.now.records.now) want.old latest.old f }
     ensures latest { latest.new ≡ latest_with (decode_all trace.now.records.now) latest.old f }
 {
@@ -88,8 +87,8 @@ fn visit(trace: &Trace, want: &mut [u16], latest: &mut [u16], f: u16)
 
 // Where the walk of task t ends, whose frontier was at event `old`: there, or for a task without events in
 // the set at its start, which is then wanted.
-fn begin(trace: &Trace, want: &mut [u16], t: usize, old: u16) -> u16
-    requires { (t < tasks) × (length want.old ≡ tasks) }
+fn begin(trace: &Trace, want: &mut [u16; 16], t: usize, old: u16) -> u16
+    requires { t < tasks }
     ensures { (result ≡ cond (eqb old 0) (start_in (decode_all trace.now.records.now) t) old)
         × (want.new ≡ cond (eqb old 0) (wanted (decode_all trace.now.records.now) want.old
         (start_in (decode_all trace.now.records.now) t)) want.old) }
@@ -103,8 +102,7 @@ fn begin(trace: &Trace, want: &mut [u16], t: usize, old: u16) -> u16
 }
 
 // The first task whose wanted event the frontier has not reached, if any.
-fn unreached(front: &[u16], want: &[u16]) -> Option<usize>
-    requires { (length front.now ≡ tasks) × (length want.now ≡ tasks) }
+fn unreached(front: &[u16; 16], want: &[u16; 16]) -> Option<usize>
     ensures { Unreached front.now want.now result }
 {
     front

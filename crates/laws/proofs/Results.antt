@@ -2,11 +2,16 @@
 -- tells. Assumes nothing.
 use Rattle.std.specs.Prelude.{◌≡◌, ◌≢◌, Result, Ok, Err, refl}
 use Rattle.std.specs.Result.{IsErrAnd}
+use Prim.Native.Nat.{ℕ, ◌≤◌}
+use mathlib.Core.List.{List}
 use mathlib.Core.Path.{ap, sym, ◌∙◌}
+use lib.ListN.{length}
 use native.Mathlib.Omega.{arith}
 use Rattle.model.specs.declared.Refusal.{Refusal}
 use Rattle.model.specs.Answers.{Outcome, outcome_of}
+use Rattle.model.specs.Calls.Check.{check}
 use Rattle.laws.proofs.Numbers.{number_positive}
+use Rattle.laws.proofs.Questions.{check_bytes}
 
 -- It is that error.
 pub passed_on : {T E : Type 0} (r : Result T E) (q : E) → IsErrAnd r (λ x. x ≡ q) → r ≡ Err q
@@ -23,3 +28,7 @@ is_refused r o q n =
 -- and what is no error none.
 pub is_passed : (a : Unit {0}) (o : Outcome) → outcome_of {A = Unit {0}} (Ok a) ≡ o → o.refusal ≡ 0
 is_passed a o q = sym (ap (λ (x : Outcome). x.refusal) q)
+
+-- What passes has the two bytes of a header.
+pub passed_bytes : (a : Unit {0}) (b : List ℕ) → outcome_of {A = Unit {0}} (Ok a) ≡ check b → 2 ≤ length b
+passed_bytes a b q = (check_bytes b (is_passed a (check b) q)).0

@@ -108,13 +108,13 @@ listed_of (Ok a) = record { refusal = 0; event = 0; patterns = a.patterns; bytes
 listed_of (Err r) = record { refusal = number r.question; event = r.event; patterns = 0; bytes = 0 }
 
 -- The verdict is deadlock.
-abbrev pub is_deadlock : Decided → Bool
-is_deadlock Not = false
-is_deadlock Deadlock = true
+abbrev pub tells_deadlock : Decided → Bool
+tells_deadlock Not = false
+tells_deadlock Deadlock = true
 
 -- The verdict call's.
 abbrev pub verdict_of : Result Decided Refusal → Verdict
-verdict_of (Ok a) = record { refusal = 0; event = 0; deadlock = is_deadlock a }
+verdict_of (Ok a) = record { refusal = 0; event = 0; deadlock = tells_deadlock a }
 verdict_of (Err r) = record { refusal = number r.question; event = r.event; deadlock = false }
 
 -- The witness call's, which returns how many bytes of schedule it wrote, if the verdict is deadlock.

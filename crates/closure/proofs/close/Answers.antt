@@ -52,9 +52,6 @@ returns-in_err-check c =
       output = sym y;
     }
 
-pub event_count-n-requires : goal.event_count-n-requires
-event_count-n-requires c = (check_bytes _ (accepted (goal.at.event_count-n-requires c).In_ok-check)).0
-
 pub returns-then-set-n : goal.returns-then-set-n
 returns-then-set-n c =
     let a = c.args in
@@ -73,9 +70,6 @@ returns-then-not-spare_clear c =
     (accepted (goal.at.returns-then-not-spare_clear c).In_ok-check)
     (sized (goal.at.returns-then-not-spare_clear c).Else-set-n) no in
     record { answer = rw c.into-then-not-spare_clear.ensures (sym x); output = sym y }
-
-pub read-requires : goal.read-requires
-read-requires c = accepted (goal.at.read-requires c).In_ok-check
 
 pub close_set-requires : goal.close_set-requires
 close_set-requires c =

@@ -20,7 +20,7 @@ before c =
     let p = c.pack in
     let σ = decode_all c.args.trace.now.records.now in
     let small : length σ ≤ 64 * length p.new.words =
-    omega (arith, c.args.trace.now.short, decode_all-length c.args.trace.now.records.now, p.auto.words) in
+    omega (arith, c.args.trace.now.short, decode_all-length c.args.trace.now.records.now) in
     c.count-before.ensures ∙ count_lent σ c.args.set.now p.new.words p.ensures c.requires.1 _ small
 
 -- and those of its closure.
@@ -28,18 +28,14 @@ after : (c : goal.After-count-after)
     → let σ = decode_all c.args.trace.now.records.now in
     c.count-after.result ≡ length (members σ (closure σ (lent_set σ c.args.set.now)))
 after c =
-    let q = c.put_behind in
+    let q = c.set_behind-closed in
     let r = c.reach-frontier in
     let p = c.pack in
     let σ = decode_all c.args.trace.now.records.now in
-    let small : length σ ≤ 64 * length q.new.words = omega (
-      arith,
-      c.args.trace.now.short,
-      decode_all-length c.args.trace.now.records.now,
-      q.auto.words,
-    ) in
+    let small : length σ ≤ 64 * length q.result =
+    omega (arith, c.args.trace.now.short, decode_all-length c.args.trace.now.records.now) in
     c.count-after.ensures
-    ∙ count_closed σ c.args.set.now p.new.words p.ensures r.result.front q.new.words
+    ∙ count_closed σ c.args.set.now p.new.words p.ensures r.result.front q.result
     r.ensures q.ensures _ small
 
 pub pack-requires : goal.pack-requires
@@ -48,13 +44,7 @@ pack-requires c =
 
 pub unpack-requires : goal.unpack-requires
 unpack-requires c =
-    omega (
-      arith,
-      c.args.trace.now.short,
-      c.requires.0,
-      decode_all-length c.args.trace.now.records.now,
-      c.put_behind.auto.words,
-    )
+    omega (arith, c.args.trace.now.short, c.requires.0, decode_all-length c.args.trace.now.records.now)
 
 pub overflow_sub-result : goal.overflow_sub-result
 overflow_sub-result c =
@@ -74,7 +64,7 @@ returns c =
       answer = ap₂ ◌-◌ (after (goal.at.returns c).After-count-after)
           (before (goal.at.returns c).After-count-after);
       output = bytes_closed (decode_all c.args.trace.now.records.now) set c.pack.new.words c.pack.ensures
-          c.reach-frontier.result.front c.put_behind.new.words c.reach-frontier.ensures
-          c.put_behind.ensures bytes (long ∙ c.requires.0) (λ k. (c.type_inv.set k).fits)
+          c.reach-frontier.result.front c.set_behind-closed.result c.reach-frontier.ensures
+          c.set_behind-closed.ensures bytes (long ∙ c.requires.0) (λ k. (c.type_inv.set k).fits)
           (λ i h. c.unpack.ensures i (omega (arith, long)));
     }

@@ -8,4 +8,4 @@ use Rattle.frontier.proofs.begin.Goals as goal
 pub want_event-requires : goal.want_event-requires
 want_event-requires c =
     let b = c.args.trace.now.records.now in
-    (omega (arith, c.start-start.ensures, start_in_le (decode_all b) c.args.t, decode_all-length b), c.requires.1)
+    omega (arith, c.start-start.ensures, start_in_le (decode_all b) c.args.t, decode_all-length b)

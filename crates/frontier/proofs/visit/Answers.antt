@@ -1,8 +1,6 @@
 -- `frontier::visit` meets its contract: each operation has its law. Assumes nothing.
 use Prim.Native.Nat.{ℕ}
 use mathlib.Core.Path.{◌≡◌, refl}
-use native.Mathlib.Omega.{arith}
-use lib.ListN.{get_or}
 use Rattle.model.specs.Trace.{at}
 use Rattle.model.specs.Recording.{decode_all}
 use Rattle.laws.specs.EventKinds.{marked}
@@ -31,15 +29,13 @@ visit_acquire-requires c =
     let outer = marked_outer u refl c.if-matching-f.true in (
       c.requires.0,
       c.requires.1,
-      c.requires.2,
-      c.requires.3,
       acquire_lt (decode_all b) (events_sound b c.args.trace.now.accepted) c.args.f (rw outer tt),
     )
 
 pub want_event-requires : goal.want_event-requires
 want_event-requires c =
     let (h, k) = record-event c.args.trace.now.records.now c.args.f (c.requires.0, c.requires.1) in
-    (awaited_in c.args.trace.now.records.now c.args.f (h, c.requires.1) _ c.awaited.ensures, c.requires.2)
+    awaited_in c.args.trace.now.records.now c.args.f (h, c.requires.1) _ c.awaited.ensures
 
 pub returns-then-matching-f : goal.returns-then-matching-f
 returns-then-matching-f c =

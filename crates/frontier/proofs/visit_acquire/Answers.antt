@@ -15,7 +15,7 @@ pub want_match-requires : goal.want_match-requires
 want_match-requires c =
     let event : (1 ≤ c.min.result) × (c.min.result ≤ c.args.f) =
     omega (arith, c.min.ensures, c.if-top-eq0.false, c.requires.0) in
-    (event.0, omega (arith, event, c.requires.1), c.requires.2)
+    (event.0, omega (arith, event, c.requires.1))
 
 pub returns : goal.returns
 returns c =

@@ -7,7 +7,7 @@ use mathlib.Core.Bool.{cond}
 use native.Mathlib.Omega.{arith}
 use Rattle.model.specs.declared.Verdict.{Verdict as Decided}
 use Rattle.model.specs.declared.Verdict.TheVariants.{Not, Deadlock}
-use Rattle.model.specs.Answers.{Verdict, is_deadlock, verdict_of}
+use Rattle.model.specs.Answers.{Verdict, tells_deadlock, verdict_of}
 use Rattle.model.specs.Calls.Verdict.{verdict}
 use Rattle.model.specs.Calls.Entries.{verdict_entry}
 use Rattle.laws.proofs.Numbers.{number_positive}
@@ -24,7 +24,7 @@ refused-requires c =
 
 -- A verdict that is not refused has its number.
 decided : (b p : List ℕ) (v : Decided) → verdict_of (Ok v) ≡ verdict b p
-    → cond (is_deadlock v) 2 0 ≡ verdict_entry b p
+    → cond (tells_deadlock v) 2 0 ≡ verdict_entry b p
 decided b p v q =
     ap (λ (x : Verdict). cond x.deadlock 2 0) q
     ∙ carries_accepted (verdict_carries b p) (sym (ap (λ (x : Verdict). x.refusal) q)) _

@@ -9,8 +9,8 @@ use Rattle.model.specs.Trace.{locks}
 use Rattle.model.specs.Recording.{trace}
 use Rattle.model.specs.Calls.Check.{check}
 use Rattle.model.specs.Calls.Load.{held_events}
-use Rattle.laws.proofs.Results.{passed_on, is_refused, is_passed}
-use Rattle.laws.proofs.Questions.{check_bytes, check-count, part-trace, part_length, part_accepted}
+use Rattle.laws.proofs.Results.{passed_on, is_refused, is_passed, passed_bytes}
+use Rattle.laws.proofs.Questions.{check-count, part-trace, part_length, part_accepted}
 use Rattle.laws.proofs.Answers.{load_unchecked, load_unknown, load_answer}
 use Rattle.load.proofs.load.Goals as goal
 use Rattle.load.proofs.load.Goals.{In_ok-check}
@@ -34,18 +34,15 @@ returns-then-lock-ge64 c =
 
 pub event_count-n-requires : goal.event_count-n-requires
 event_count-n-requires c =
-    (check_bytes c.args.recording.now (accepted (goal.at.event_count-n-requires c).In_ok-check)).0
+    passed_bytes _ _ c.in_ok-check.ensures
 
 pub slice_bounds-count_held-count : goal.slice_bounds-count_held-count
 slice_bounds-count_held-count c =
-    (check_bytes c.args.recording.now
-    (accepted (goal.at.slice_bounds-count_held-count c).In_ok-check)).0
+    passed_bytes _ _ c.in_ok-check.ensures
 
 pub slice_bounds-count_held-start : goal.slice_bounds-count_held-start
 slice_bounds-count_held-start c =
-    let h =
-    (check_bytes c.args.recording.now
-    (accepted (goal.at.slice_bounds-count_held-start c).In_ok-check)).0 in
+    let h = passed_bytes _ _ c.in_ok-check.ensures in
     search rules
 
 pub count_held-held-requires : goal.count_held-held-requires

@@ -1,9 +1,8 @@
 -- `frontier::extend` meets its contract: with the predecessor wanted, the frontier advances. Assumes nothing.
-use Prim.Native.Nat.{ℕ, ◌≤◌}
-use mathlib.Core.Path.{◌≡◌, ap, ◌∙◌}
-use mathlib.Core.List.{List}
+use Prim.Native.Nat.{◌≤◌}
+use mathlib.Core.Path.{◌≡◌}
 use native.Mathlib.Omega.{arith}
-use lib.ListN.{length, get_or}
+use lib.ListN.{length}
 use Rattle.model.specs.Relations.{predecessor}
 use Rattle.model.specs.Recording.{decode_all}
 use Rattle.laws.specs.Frontier.{wanted}
@@ -30,15 +29,13 @@ more : (c : goal.After-want_event)
 more c = rw (← c.predecessor.ensures) c.want_event.ensures
 
 pub want_event-requires : goal.want_event-requires
-want_event-requires c = (
-  omega (
-    arith,
-    c.predecessor.ensures,
-    known (goal.at.want_event-requires c).Start,
-    decode_all-length c.args.trace.now.records.now,
-  ),
-  c.requires.0.want_ok.long,
-)
+want_event-requires c =
+    omega (
+      arith,
+      c.predecessor.ensures,
+      known (goal.at.want_event-requires c).Start,
+      decode_all-length c.args.trace.now.records.now,
+    )
 
 pub advance-requires : goal.advance-requires
 advance-requires c =

@@ -1,10 +1,9 @@
 -- `frontier::turn` meets its contract: the frontier is on its way from the wanted event to the old one, or to
 -- the task's start. Assumes nothing.
-use Prim.Native.Nat.{◌≤◌, ◌<◌}
-use mathlib.Core.Path.{◌≡◌, refl}
+use Prim.Native.Nat.{◌≤◌}
+use mathlib.Core.Path.{refl}
 use native.Mathlib.Omega.{arith}
 use lib.ListN.{length, get_or, set}
-use Rattle.model.specs.Relations.{predecessor}
 use Rattle.model.specs.Recording.{decode_all}
 use Rattle.laws.proofs.Trace.{decode_all-length}
 use Rattle.laws.proofs.Relations.{predecessor_below}
@@ -40,9 +39,8 @@ loop-f-init c = record {
 
 pub visit-requires : goal.visit-requires
 visit-requires c =
-    let z = c.loop-f.invariant.turning.going in
     let e = event (goal.at.visit-requires c).In-loop-f in
-    (e.0, omega (arith, e, decode_all-length c.args.trace.now.records.now), z.want_ok.long, z.latest_long)
+    (e.0, omega (arith, e, decode_all-length c.args.trace.now.records.now))
 
 pub predecessor-f-requires : goal.predecessor-f-requires
 predecessor-f-requires c =

@@ -1,16 +1,16 @@
--- `closure::put_behind` meets its contract: the events passed are put in where they are behind the frontier.
+-- `closure::set_behind` meets its contract: the events passed are in it where they are behind the frontier.
 -- Assumes nothing.
 use Prim.Native.Nat.{◌-◌}
-use mathlib.Core.Path.{◌≡◌}
+use mathlib.Core.Path.{◌≡◌, refl}
 use native.Mathlib.Omega.{arith}
 use lib.ListN.{length}
 use Rattle.model.specs.Recording.{decode_all}
 use Rattle.laws.proofs.Trace.{decode_all-length}
 use Rattle.closure.proofs.Sets.{row-none}
-use Rattle.closure.proofs.put_behind.Goals as goal
+use Rattle.closure.proofs.set_behind.Goals as goal
 
 pub loop-e-init : goal.loop-e-init
-loop-e-init c = λ i. row-none c.args.words.now i _ c.requires
+loop-e-init c = λ i. row-none _ i 64 refl
 
 pub returns : goal.returns
 returns c =
