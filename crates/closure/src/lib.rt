@@ -99,7 +99,6 @@ fn close_set(trace: &Trace, set: &mut [u8]) -> u64
 }
 
 // The closure of a lent event set: questions 11 and 12, then the set is closed in place.
-#[tactic(auto, using(laws::proofs::Results::is_passed, laws::proofs::Results::passed_bytes))]
 pub fn close(recording: &[u8], set: &mut [u8]) -> Result<u64, Refusal>
     ensures answer { closed_of result ≡ close recording.now set.old }
     ensures output { set.new ≡ close_out recording.now set.old }

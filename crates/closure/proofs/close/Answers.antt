@@ -4,27 +4,21 @@ use Prim.Native.Nat.{ℕ, suc, ◌-◌, ◌*◌}
 use mathlib.Core.Path.{◌≡◌, sym, ap, ◌∙◌}
 use mathlib.Core.Bool.{not}
 use native.Mathlib.Numerals.{add-one}
-use borrow.Author.Rules.{rules}
 use lib.ListN.{length}
 use Rattle.model.specs.Lists.{all, from}
 use Rattle.model.specs.Recording.{trace}
 use Rattle.model.specs.EventSet.{set_length, lent_bit}
-use Rattle.model.specs.Calls.Check.{check}
-use Rattle.laws.proofs.Results.{passed_on, is_refused, is_passed}
-use Rattle.laws.proofs.Questions.{check_bytes, check-count, part-trace, part_small, part_accepted}
+use Rattle.laws.proofs.Results.{passed_on, is_refused, is_passed, passed_bytes}
+use Rattle.laws.proofs.Questions.{check-count}
 use Rattle.closure.proofs.Answers.{close_unchecked, close-length, close_spare, close_closed}
 use Rattle.closure.proofs.close.Goals as goal
 use Rattle.closure.proofs.close.Goals.{In_ok-check, After-event_count-n, After-spare_clear, Else-set-n}
-
--- The recording is accepted.
-accepted : (c : goal.In_ok-check) → (check c.args.recording.now).refusal ≡ 0
-accepted c = is_passed c.in_ok-check.field-0 _ c.in_ok-check.ensures
 
 -- Its events are counted.
 counted : (c : goal.After-event_count-n)
     → c.event_count-n.result ≡ length (trace c.args.recording.now)
 counted c = c.event_count-n.ensures.1
-    ∙ sym (check-count _ (accepted (goal.at.After-event_count-n c).In_ok-check))
+    ∙ sym (check-count _ (is_passed _ _ c.in_ok-check.ensures))
 
 -- The lent set has the length of a set.
 sized : (c : goal.Else-set-n)
@@ -52,12 +46,15 @@ returns-in_err-check c =
       output = sym y;
     }
 
+pub event_count-n-requires : goal.event_count-n-requires
+event_count-n-requires c = passed_bytes _ _ c.in_ok-check.ensures
+
 pub returns-then-set-n : goal.returns-then-set-n
 returns-then-set-n c =
     let a = c.args in
     let size = counted (goal.at.returns-then-set-n c).After-event_count-n in
     let (x, y) =
-    close-length a.recording.now a.set.now (accepted (goal.at.returns-then-set-n c).In_ok-check)
+    close-length a.recording.now a.set.now (is_passed _ _ c.in_ok-check.ensures)
     (λ q. c.if-set-n.true (q ∙ ap set_length (sym size))) in
     record { answer = rw c.into.ensures (sym x); output = sym y }
 
@@ -67,9 +64,12 @@ returns-then-not-spare_clear c =
     let no = sym (is-clear (goal.at.returns-then-not-spare_clear c).After-spare_clear)
     ∙ c.if-not-spare_clear.true in
     let (x, y) = close_spare a.recording.now a.set.now
-    (accepted (goal.at.returns-then-not-spare_clear c).In_ok-check)
+    (is_passed _ _ c.in_ok-check.ensures)
     (sized (goal.at.returns-then-not-spare_clear c).Else-set-n) no in
     record { answer = rw c.into-then-not-spare_clear.ensures (sym x); output = sym y }
+
+pub read-requires : goal.read-requires
+read-requires c = is_passed _ _ c.in_ok-check.ensures
 
 pub close_set-requires : goal.close_set-requires
 close_set-requires c =
@@ -82,7 +82,7 @@ returns c =
     let a = c.args in
     let b = a.recording.now in
     let yes = sym (is-clear (goal.at.returns c).After-spare_clear) ∙ c.if-not-spare_clear.false in
-    let (x, y) = close_closed b a.set.now (accepted (goal.at.returns c).In_ok-check)
+    let (x, y) = close_closed b a.set.now (is_passed _ _ c.in_ok-check.ensures)
     (sized (goal.at.returns c).Else-set-n) yes in
     let added = rw c.read.ensures.events at c.close_set.ensures.answer in
     let bytes = rw c.read.ensures.events at c.close_set.ensures.output in

@@ -10,7 +10,7 @@ use Rattle.closure.proofs.Sets.{row-none}
 use Rattle.closure.proofs.set_behind.Goals as goal
 
 pub loop-e-init : goal.loop-e-init
-loop-e-init c = λ i. row-none _ i 64 refl
+loop-e-init c = λ i. row-none _ i _ refl
 
 pub returns : goal.returns
 returns c =

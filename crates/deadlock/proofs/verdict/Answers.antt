@@ -1,16 +1,11 @@
 -- `deadlock::verdict` meets its contract: the recording's questions, then what is decided of the pattern.
 -- Assumes nothing.
-use mathlib.Core.Path.{◌≡◌, sym}
-use Rattle.model.specs.Calls.Check.{check}
+use mathlib.Core.Path.{sym}
 use Rattle.model.specs.Refused.{refusal}
 use Rattle.laws.proofs.Results.{passed_on, is_refused, is_passed}
 use Rattle.deadlock.proofs.Answers.{verdict_unchecked, verdict_accepted}
 use Rattle.deadlock.proofs.verdict.Goals as goal
 use Rattle.deadlock.proofs.verdict.Goals.{In_ok-check}
-
--- The recording is accepted.
-accepted : (c : goal.In_ok-check) → (check c.args.recording.now).refusal ≡ 0
-accepted c = is_passed c.in_ok-check.field-0 _ c.in_ok-check.ensures
 
 pub returns-in_err-check : goal.returns-in_err-check
 returns-in_err-check c =
@@ -19,21 +14,21 @@ returns-in_err-check c =
     (sym (rw (← q) at (verdict_unchecked c.args.recording.now c.args.pattern.now (is_refused _ _ q))))
 
 pub read-requires : goal.read-requires
-read-requires c = accepted (goal.at.read-requires c).In_ok-check
+read-requires c = is_passed _ _ c.in_ok-check.ensures
 
 pub returns-in_err-decide : goal.returns-in_err-decide
 returns-in_err-decide c =
     let (q, none) = rw c.read.ensures.events at c.in_err-decide.ensures in
-    let is = verdict_accepted c.args.recording.now c.args.pattern.now (accepted (goal.at.returns-in_err-decide c).In_ok-check) in
+    let is = verdict_accepted c.args.recording.now c.args.pattern.now (is_passed _ _ c.in_ok-check.ensures) in
     rw (passed_on c.from_residual-in_err-decide.result (refusal c.in_err-decide.field-0.0 0)
     c.from_residual-in_err-decide.ensures.1, q) (rw none at is)
 
 pub returns-in-Some : goal.returns-in-Some
 returns-in-Some c =
     let (some, z) = rw (c.in-Some.is, c.read.ensures.events) at c.in_ok-decide.ensures in
-    rw some at (verdict_accepted c.args.recording.now c.args.pattern.now (accepted (goal.at.returns-in-Some c).In_ok-check))
+    rw some at (verdict_accepted c.args.recording.now c.args.pattern.now (is_passed _ _ c.in_ok-check.ensures))
 
 pub returns-in-None : goal.returns-in-None
 returns-in-None c =
     let none = rw (c.in-None.is, c.read.ensures.events) at c.in_ok-decide.ensures in
-    rw none at (verdict_accepted c.args.recording.now c.args.pattern.now (accepted (goal.at.returns-in-None c).In_ok-check))
+    rw none at (verdict_accepted c.args.recording.now c.args.pattern.now (is_passed _ _ c.in_ok-check.ensures))

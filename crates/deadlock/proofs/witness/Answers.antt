@@ -1,15 +1,10 @@
 -- `deadlock::witness` meets its contract: the recording's questions, then the records decide.
 -- Assumes nothing.
-use mathlib.Core.Path.{◌≡◌, sym, ◌∙◌}
-use Rattle.model.specs.Calls.Check.{check}
+use mathlib.Core.Path.{sym, ◌∙◌}
 use Rattle.laws.proofs.Results.{passed_on, is_refused, is_passed}
 use Rattle.deadlock.proofs.Answers.{witness_unchecked, witness_accepted}
 use Rattle.deadlock.proofs.witness.Goals as goal
 use Rattle.deadlock.proofs.witness.Goals.{In_ok-check}
-
--- The recording is accepted.
-accepted : (c : goal.In_ok-check) → (check c.args.recording.now).refusal ≡ 0
-accepted c = is_passed c.in_ok-check.field-0 _ c.in_ok-check.ensures
 
 pub returns-in_err-check : goal.returns-in_err-check
 returns-in_err-check c =
@@ -22,13 +17,13 @@ returns-in_err-check c =
     }
 
 pub read-requires : goal.read-requires
-read-requires c = accepted (goal.at.read-requires c).In_ok-check
+read-requires c = is_passed _ _ c.in_ok-check.ensures
 
 pub returns : goal.returns
 returns c =
     let a = c.args in
     let (x, y) =
-    witness_accepted a.recording.now a.pattern.now a.out.now (accepted (goal.at.returns c).In_ok-check) in
+    witness_accepted a.recording.now a.pattern.now a.out.now (is_passed _ _ c.in_ok-check.ensures) in
     let w = c.witness_trace.ensures in
     record {
       answer = (rw c.read.ensures.events at w.answer) ∙ sym x;

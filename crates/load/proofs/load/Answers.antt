@@ -7,17 +7,12 @@ use borrow.Author.Tests.{lt-ltb, le-ltb}
 use lib.ListN.{length}
 use Rattle.model.specs.Trace.{locks}
 use Rattle.model.specs.Recording.{trace}
-use Rattle.model.specs.Calls.Check.{check}
 use Rattle.model.specs.Calls.Load.{held_events}
 use Rattle.laws.proofs.Results.{passed_on, is_refused, is_passed, passed_bytes}
 use Rattle.laws.proofs.Questions.{check-count, part-trace, part_length, part_accepted}
 use Rattle.laws.proofs.Answers.{load_unchecked, load_unknown, load_answer}
 use Rattle.load.proofs.load.Goals as goal
 use Rattle.load.proofs.load.Goals.{In_ok-check}
-
--- The recording is accepted.
-accepted : (c : goal.In_ok-check) → (check c.args.recording.now).refusal ≡ 0
-accepted c = is_passed c.in_ok-check.field-0 _ c.in_ok-check.ensures
 
 pub returns-in_err-check : goal.returns-in_err-check
 returns-in_err-check c =
@@ -29,7 +24,7 @@ pub returns-then-lock-ge64 : goal.returns-then-lock-ge64
 returns-then-lock-ge64 c =
     rw c.into.ensures
     (sym (load_unknown c.args.recording.now c.args.lock
-    (accepted (goal.at.returns-then-lock-ge64 c).In_ok-check)
+    (is_passed _ _ c.in_ok-check.ensures)
     (le-ltb c.args.lock locks c.if-lock-ge64.true)))
 
 pub event_count-n-requires : goal.event_count-n-requires
@@ -48,7 +43,7 @@ slice_bounds-count_held-start c =
 pub count_held-held-requires : goal.count_held-held-requires
 count_held-held-requires c =
     let b = c.args.recording.now in
-    let ok = accepted (goal.at.count_held-held-requires c).In_ok-check in (
+    let ok = is_passed _ _ c.in_ok-check.ensures in (
       omega (arith, c.event_count-n.ensures, part_length b ok),
       part_accepted b ok,
       c.if-lock-ge64.false,
@@ -57,7 +52,7 @@ count_held-held-requires c =
 pub returns : goal.returns
 returns c =
     let b = c.args.recording.now in
-    let ok = accepted (goal.at.returns c).In_ok-check in
+    let ok = is_passed _ _ c.in_ok-check.ensures in
     let n : c.event_count-n.result ≡ length (trace b) =
     c.event_count-n.ensures.1 ∙ sym (check-count b ok) in
     let h : c.count_held-held.result ≡ held_events (trace b) c.args.lock =

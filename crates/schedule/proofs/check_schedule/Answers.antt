@@ -1,15 +1,10 @@
 -- `schedule::check_schedule` meets its contract: the recording's questions, then what is decided.
 -- Assumes nothing.
-use mathlib.Core.Path.{◌≡◌, sym}
-use Rattle.model.specs.Calls.Check.{check}
+use mathlib.Core.Path.{sym}
 use Rattle.laws.proofs.Results.{passed_on, is_refused, is_passed}
 use Rattle.schedule.proofs.Answers.{checked_unchecked, checked_accepted}
 use Rattle.schedule.proofs.check_schedule.Goals as goal
 use Rattle.schedule.proofs.check_schedule.Goals.{In_ok-check}
-
--- The recording is accepted.
-accepted : (c : goal.In_ok-check) → (check c.args.recording.now).refusal ≡ 0
-accepted c = is_passed c.in_ok-check.field-0 _ c.in_ok-check.ensures
 
 pub returns-in_err-check : goal.returns-in_err-check
 returns-in_err-check c =
@@ -23,4 +18,4 @@ returns c =
     let is = rw c.read.ensures.events at c.decide.ensures in
     rw (c.ok_or.ensures.value, c.into.ensures, is)
     (checked_accepted c.args.recording.now c.args.pattern.now c.args.schedule.now
-    (accepted (goal.at.returns c).In_ok-check))
+    (is_passed _ _ c.in_ok-check.ensures))
