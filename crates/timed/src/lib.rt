@@ -13,7 +13,7 @@ ghost use Rattle.model.specs.Calls.Witness.{witness, witness_out};
 ghost use Rattle.model.specs.Calls.CheckSchedule.{check_schedule};
 
 use frontier::Frontier;
-use model::Verdict;
+use model::Question;
 use relations::Trace;
 
 // Checks a recording: its refusal.
@@ -63,11 +63,11 @@ pub extern "C" fn timed_tables(recording: &[u8]) -> u64
     }
 }
 
-// Decides the pattern again and again: what was decided last, if it is one.
-fn decide_often(trace: &Trace, pattern: &[u8], rounds: u64) -> Option<Verdict> {
-    let mut decided = None;
+// Decides the pattern again and again: what was decided last.
+fn decide_often(trace: &Trace, pattern: &[u8], rounds: u64) -> Result<Option<Frontier>, Question> {
+    let mut decided = Err(Question::Pattern);
     for _ in 0..rounds {
-        decided = deadlock::decide(trace, pattern, &mut Frontier::empty());
+        decided = deadlock::decide(trace, pattern);
     }
     decided
 }
@@ -78,12 +78,12 @@ fn decide_often(trace: &Trace, pattern: &[u8], rounds: u64) -> Option<Verdict> {
 pub extern "C" fn timed_verdicts(recording: &[u8], pattern: &[u8], rounds: u64) -> u64 {
     let decided = match recording::check(recording) {
         Ok(()) => decide_often(&Trace::read(recording), pattern, rounds),
-        Err(_) => None,
+        Err(refusal) => Err(refusal.question),
     };
     match decided {
-        None => 0,
-        Some(Verdict::Not) => 1,
-        Some(Verdict::Deadlock) => 2,
+        Err(_) => 0,
+        Ok(None) => 1,
+        Ok(Some(_)) => 2,
     }
 }
 
