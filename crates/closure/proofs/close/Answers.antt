@@ -12,7 +12,7 @@ use Rattle.laws.proofs.Results.{passed_on, is_refused, is_passed, passed_bytes}
 use Rattle.laws.proofs.Questions.{check-count}
 use Rattle.closure.proofs.Answers.{close_unchecked, close-length, close_spare, close_closed}
 use Rattle.closure.proofs.close.Goals as goal
-use Rattle.closure.proofs.close.Goals.{In_ok-check, After-event_count-n, After-spare_clear, Else-set-n}
+use Rattle.closure.proofs.close.Goals.{After-event_count-n, After-spare_clear, Else-set-n}
 
 -- Its events are counted.
 counted : (c : goal.After-event_count-n)

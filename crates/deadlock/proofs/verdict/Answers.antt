@@ -5,7 +5,6 @@ use Rattle.model.specs.Refused.{refusal}
 use Rattle.laws.proofs.Results.{passed_on, is_refused, is_passed}
 use Rattle.deadlock.proofs.Answers.{verdict_unchecked, verdict_accepted}
 use Rattle.deadlock.proofs.verdict.Goals as goal
-use Rattle.deadlock.proofs.verdict.Goals.{In_ok-check}
 
 pub returns-in_err-check : goal.returns-in_err-check
 returns-in_err-check c =

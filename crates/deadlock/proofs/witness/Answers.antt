@@ -4,7 +4,6 @@ use mathlib.Core.Path.{sym, ◌∙◌}
 use Rattle.laws.proofs.Results.{passed_on, is_refused, is_passed}
 use Rattle.deadlock.proofs.Answers.{witness_unchecked, witness_accepted}
 use Rattle.deadlock.proofs.witness.Goals as goal
-use Rattle.deadlock.proofs.witness.Goals.{In_ok-check}
 
 pub returns-in_err-check : goal.returns-in_err-check
 returns-in_err-check c =

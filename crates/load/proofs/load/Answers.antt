@@ -12,7 +12,6 @@ use Rattle.laws.proofs.Results.{passed_on, is_refused, is_passed, passed_bytes}
 use Rattle.laws.proofs.Questions.{check-count, part-trace, part_length, part_accepted}
 use Rattle.laws.proofs.Answers.{load_unchecked, load_unknown, load_answer}
 use Rattle.load.proofs.load.Goals as goal
-use Rattle.load.proofs.load.Goals.{In_ok-check}
 
 pub returns-in_err-check : goal.returns-in_err-check
 returns-in_err-check c =
@@ -28,12 +27,10 @@ returns-then-lock-ge64 c =
     (le-ltb c.args.lock locks c.if-lock-ge64.true)))
 
 pub event_count-n-requires : goal.event_count-n-requires
-event_count-n-requires c =
-    passed_bytes _ _ c.in_ok-check.ensures
+event_count-n-requires c = passed_bytes _ _ c.in_ok-check.ensures
 
 pub slice_bounds-count_held-count : goal.slice_bounds-count_held-count
-slice_bounds-count_held-count c =
-    passed_bytes _ _ c.in_ok-check.ensures
+slice_bounds-count_held-count c = passed_bytes _ _ c.in_ok-check.ensures
 
 pub slice_bounds-count_held-start : goal.slice_bounds-count_held-start
 slice_bounds-count_held-start c =

@@ -4,7 +4,6 @@ use mathlib.Core.Path.{sym}
 use Rattle.laws.proofs.Results.{passed_on, is_refused, is_passed}
 use Rattle.schedule.proofs.Answers.{checked_unchecked, checked_accepted}
 use Rattle.schedule.proofs.check_schedule.Goals as goal
-use Rattle.schedule.proofs.check_schedule.Goals.{In_ok-check}
 
 pub returns-in_err-check : goal.returns-in_err-check
 returns-in_err-check c =
