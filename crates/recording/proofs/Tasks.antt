@@ -1,94 +1,103 @@
 -- How the check goes on after one start or join, by the start, the latest join and the latest event of the
 -- task that it names. Assumes nothing.
-use Prim.Native.Nat.{ℕ, ◌+◌, ◌<◌}
-use mathlib.Core.Path.{◌≡◌, sym, ◌∙◌}
+use Prim.Native.Nat.{ℕ, ◌<◌}
+use mathlib.Core.Path.{◌≡◌, refl, sym, ◌∙◌}
 use mathlib.Core.Logic.{◌≢◌}
-use mathlib.Core.Bool.{true, false, cond, not, ◌&&◌, and-false}
+use mathlib.Core.Bool.{true, false, not, ◌&&◌, and-false}
 use mathlib.Core.List.{List}
-use native.Mathlib.Numerals.{add-one}
 use native.Mathlib.Omega.{arith}
 use lib.Dec.{T, eqb}
-use lib.ListN.{length, get_or, set}
+use lib.ListN.{length, get_or, set, length-set}
 use borrow.Author.Tests.{eq-eqb, ne_eqb}
-use Rattle.model.specs.Trace.{Trace, tasks, task}
+use Rattle.model.specs.Trace.{Trace, tasks, sync_objects, at, task, object}
 use Rattle.model.specs.Tasks.{is_start, is_join, target}
-use Rattle.model.specs.WellFormed.{is_new}
+use Rattle.model.specs.WellFormed.{is_new, fault}
 use Rattle.laws.specs.Walked.{LatestEvents}
+use Rattle.laws.proofs.Tasks.{start-object, join-object, starts_iff, joins_iff, starts_record, joins_record}
 use Rattle.laws.proofs.LatestEvents.{latest-set, latest_new}
+use Rattle.recording.specs.declared.Past.{Past}
+use Rattle.recording.specs.Asked.{Done, Passes}
+use Rattle.recording.proofs.Laws.{Coming, start_refused, started, join_refused, joined}
 
--- A start of task u by task t, with the tables.
-pub record Starting (σ : Trace) (e t u : ℕ) (latest starts joins : List ℕ) : Type 0 where
-  pub a_start : T (is_start σ e)
-  pub task_is : t ≡ task σ e
+-- Start or join e of task u by task t, with what earlier events have done.
+pub record Forking (σ : Trace) (e t u : ℕ) (past : Past) : Type 0 where
+  pub small : object σ e < sync_objects
+  pub task_is : (t < tasks) × (t ≡ task σ e)
   pub target_is : (u < tasks) × (u ≡ target σ e)
-  pub events : (length latest ≡ tasks) × LatestEvents (λ f. true) (task σ) e latest
-  pub started : (length starts ≡ tasks) × LatestEvents (is_start σ) (target σ) e starts
-  pub joined : (length joins ≡ tasks) × LatestEvents (is_join σ) (target σ) e joins
+  pub done : Done σ e past
 
-module _ {σ : Trace} {e t u : ℕ} {latest starts joins : List ℕ}
-    (s : Starting σ e t u latest starts joins) where
-  new_is : is_new σ e
-      ≡ (not (eqb u t) && eqb (get_or starts u 0) 0 && eqb (get_or joins u 0) 0 && eqb (get_or latest u 0) 0)
-  new_is =
-      rw (s.task_is, s.target_is.1)
-      (latest_new σ e latest starts s.events.1 s.started.1 joins s.joined.1
-      (omega (arith, s.target_is, s.events.0)) (omega (arith, s.target_is, s.started.0))
-      (omega (arith, s.target_is, s.joined.0)))
+module _ {σ : Trace} {e t u : ℕ} {past : Past} (s : Forking σ e t u past) where
+  coming : {op : ℕ} → (at σ e).op ≡ op → Coming σ e op (object σ e) past
+  coming is = record { op_is = sym is; object_is = (omega (arith, s.small), refl); done = s.done }
 
-  refused : is_new σ e ≡ false → ◌≡◌ {A = ℕ} 15 (cond (is_new σ e) 0 15)
-  refused n = rw n
+  -- ---- starts
 
-  -- A start of the own task,
-  pub start_own : u ≡ t → ◌≡◌ {A = ℕ} 15 (cond (is_new σ e) 0 15)
-  start_own q = refused (new_is ∙ rw (eq-eqb u t q))
+  module _ (a : T (is_start σ e)) {latest : List ℕ} (long : length latest ≡ tasks)
+      (events : LatestEvents (λ f. true) (task σ) e latest) where
+    starting : Coming σ e 2 (object σ e) past
+    starting = coming ((starts_record σ (target σ e) e).0 ((starts_iff σ (target σ e) e).1 (a, refl))).0
 
-  -- of one that was started,
-  pub start-again : get_or starts u 0 ≢ 0 → ◌≡◌ {A = ℕ} 15 (cond (is_new σ e) 0 15)
-  start-again d = refused (new_is ∙ rw (ne_eqb (get_or starts u 0) 0 d, and-false))
+    new_is : is_new σ e
+        ≡ (not (eqb u t) && eqb (get_or past.starts u 0) 0 && eqb (get_or past.joins u 0) 0
+        && eqb (get_or latest u 0) 0)
+    new_is =
+        rw (s.task_is.1, s.target_is.1)
+        (latest_new σ e latest past.starts events s.done.started past.joins s.done.joined
+        (omega (arith, s.target_is, long)) (omega (arith, s.target_is, s.done.starts_long))
+        (omega (arith, s.target_is, s.done.joins_long)))
 
-  -- of one that was joined,
-  pub start_late : get_or joins u 0 ≢ 0 → ◌≡◌ {A = ℕ} 15 (cond (is_new σ e) 0 15)
-  start_late d = refused (new_is ∙ rw (ne_eqb (get_or joins u 0) 0 d, and-false))
+    refused : is_new σ e ≡ false → fault σ e ≡ 15
+    refused = start_refused starting (start-object σ e a) s.small refl
 
-  -- of one with events,
-  pub start_busy : get_or latest u 0 ≢ 0 → ◌≡◌ {A = ℕ} 15 (cond (is_new σ e) 0 15)
-  start_busy d = refused (new_is ∙ rw (ne_eqb (get_or latest u 0) 0 d, and-false))
+    -- A start of the own task,
+    pub start_own : u ≡ t → fault σ e ≡ 15
+    start_own q = refused (new_is ∙ rw (eq-eqb u t q))
 
-  -- and of a new one.
-  pub start_new : u ≢ t → get_or starts u 0 ≡ 0 → get_or joins u 0 ≡ 0 → get_or latest u 0 ≡ 0
-      → (◌≡◌ {A = ℕ} 0 (cond (is_new σ e) 0 15)) × LatestEvents (is_start σ) (target σ) (e + 1) (set starts u e)
-  start_new a b c d = (
-    rw (
-      new_is,
-      ne_eqb u t a,
-      eq-eqb (get_or starts u 0) 0 b,
-      eq-eqb (get_or joins u 0) 0 c,
-      eq-eqb (get_or latest u 0) 0 d,
-    ),
-    rw (add-one e, s.target_is.1)
-        (latest-set (is_start σ) (target σ) e starts s.started.1 s.a_start
-        (omega (arith, s.target_is, s.started.0))),
-  )
+    -- of one that was started,
+    pub start-again : get_or past.starts u 0 ≢ 0 → fault σ e ≡ 15
+    start-again d = refused (new_is ∙ rw (ne_eqb (get_or past.starts u 0) 0 d, and-false))
 
--- A join of task u by task t, with the table.
-pub record Joining (σ : Trace) (e t u : ℕ) (joins : List ℕ) : Type 0 where
-  pub a_join : T (is_join σ e)
-  pub task_is : t ≡ task σ e
-  pub target_is : (u < tasks) × (u ≡ target σ e)
-  pub joined : (length joins ≡ tasks) × LatestEvents (is_join σ) (target σ) e joins
+    -- of one that was joined,
+    pub start_late : get_or past.joins u 0 ≢ 0 → fault σ e ≡ 15
+    start_late d = refused (new_is ∙ rw (ne_eqb (get_or past.joins u 0) 0 d, and-false))
 
-module _ {σ : Trace} {e t u : ℕ} {joins : List ℕ} (s : Joining σ e t u joins) where
-  -- A join of the own task,
-  pub join_own : u ≡ t → ◌≡◌ {A = ℕ} 16 (cond (eqb (target σ e) (task σ e)) 16 0)
-  join_own q = rw (eq-eqb (target σ e) (task σ e) (sym s.target_is.1 ∙ q ∙ s.task_is))
+    -- of one with events,
+    pub start_busy : get_or latest u 0 ≢ 0 → fault σ e ≡ 15
+    start_busy d = refused (new_is ∙ rw (ne_eqb (get_or latest u 0) 0 d, and-false))
 
-  -- and of another one.
-  pub join_other : u ≢ t
-      → (◌≡◌ {A = ℕ} 0 (cond (eqb (target σ e) (task σ e)) 16 0))
-      × LatestEvents (is_join σ) (target σ) (e + 1) (set joins u e)
-  join_other d = (
-    rw (ne_eqb (target σ e) (task σ e) (λ q. d (s.target_is.1 ∙ q ∙ sym s.task_is))),
-    rw (add-one e, s.target_is.1)
-        (latest-set (is_join σ) (target σ) e joins s.joined.1 s.a_join
-        (omega (arith, s.target_is, s.joined.0))),
-  )
+    -- and of a new one.
+    pub start_new : u ≢ t → get_or past.starts u 0 ≡ 0 → get_or past.joins u 0 ≡ 0 → get_or latest u 0 ≡ 0
+        → Passes σ e (record past { starts = set past.starts u e })
+    start_new a′ b c d =
+        started starting (start-object σ e a) s.small refl new _
+        (length-set past.starts u e ∙ s.done.starts_long)
+        (rw s.target_is.1 (latest-set (is_start σ) (target σ) e past.starts s.done.started a
+        (omega (arith, s.target_is, s.done.starts_long))))
+      where
+        new : is_new σ e ≡ true
+        new =
+            new_is ∙ rw (
+              ne_eqb u t a′,
+              eq-eqb (get_or past.starts u 0) 0 b,
+              eq-eqb (get_or past.joins u 0) 0 c,
+              eq-eqb (get_or latest u 0) 0 d,
+            )
+
+  -- ---- joins
+
+  module _ (a : T (is_join σ e)) where
+    joining : Coming σ e 3 (object σ e) past
+    joining = coming ((joins_record σ (target σ e) e).0 ((joins_iff σ (target σ e) e).1 (a, refl))).0
+
+    -- A join of the own task,
+    pub join_own : u ≡ t → fault σ e ≡ 16
+    join_own q =
+        join_refused joining (join-object σ e a) s.small refl (sym s.target_is.1 ∙ q ∙ s.task_is.1)
+
+    -- and of another one.
+    pub join_other : u ≢ t → Passes σ e (record past { joins = set past.joins u e })
+    join_other d =
+        joined joining (join-object σ e a) s.small refl (λ q. d (s.target_is.1 ∙ q ∙ sym s.task_is.1)) _
+        (length-set past.joins u e ∙ s.done.joins_long)
+        (rw s.target_is.1 (latest-set (is_join σ) (target σ) e past.joins s.done.joined a
+        (omega (arith, s.target_is, s.done.joins_long))))

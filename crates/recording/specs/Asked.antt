@@ -72,5 +72,4 @@ PlainTo b (Err r) past = outcome_of {A = Option ℕ} (Err r) ≡ check_events (d
 pub record Asking (σ : Trace) (e : ℕ) (past : Past) (latest : List ℕ) : Type 0 where
   pub faultless : (f : ℕ) → 1 ≤ f → f < e → fault σ f ≡ 0
   pub done : Done σ e past
-  pub latest_long : length latest ≡ tasks
   pub events : LatestEvents (λ f. true) (task σ) e latest
