@@ -31,7 +31,7 @@ use Rattle.recording.specs.declared.Past.{Past}
 use Rattle.recording.specs.declared.Locks.{Locks}
 use Rattle.recording.specs.declared.Op.{Op}
 use Rattle.recording.specs.declared.Op.TheVariants.{Read, Write, Acquire, Release}
-use Rattle.recording.specs.declared.Asked.TheVariants.{Passed, Lockless}
+use Rattle.recording.specs.declared.Asked.TheVariants.{Passed}
 use Rattle.recording.specs.Asked.{code, Done, Passes, Plainly}
 
 -- ---- numbers of questions
@@ -152,10 +152,6 @@ module _ {σ : Trace} {e op o : ℕ} {past : Past}
 
   -- ---- acquires and releases
 
-  -- A record that names no lock.
-  pub lockless : 2 ≤ op → 64 ≤ o → Plainly σ e (Ok Lockless) past
-  lockless h l = (record { locking = omega (arith, is_op); beyond = omega (arith, is-object) }, z)
-
   module _ (h : o < 64) where
     lock : object σ e < locks
     lock = omega (arith, is-object)
@@ -205,7 +201,8 @@ module _ {σ : Trace} {e op o : ℕ} {past : Past}
     released a held y k = (
       lock_forks,
       (
-        fault_release σ e is_op a lock ∙ passing (holds σ e (task σ e) (object σ e)) _ _ (omega arith) (sym y),
+        fault_release σ e is_op a lock
+            ∙ passing (holds σ e (task σ e) (object σ e)) _ _ (omega arith) (sym y),
         locked (omega arith) held k,
       ),
     )

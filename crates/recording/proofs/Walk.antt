@@ -83,15 +83,6 @@ done-start σ = record {
   joined = latest-start (is_join σ) (target σ) tasks;
 }
 
--- The check begins without a start or a join.
-pub plain-start : {σ : Trace} {past : Past}
-    → Done σ 1 past → Plain σ 1 past
-plain-start z = record {
-  faultless = λ f a b. absurd (omega arith);
-  unjoined = λ f a b. absurd (omega arith);
-  done = z;
-}
-
 module _ {σ : Trace} {e : ℕ} {past : Past}
     (z : Plain σ e past) where
   -- While no task was joined, none is over.
@@ -115,18 +106,6 @@ module _ {σ : Trace} {e : ℕ} {past : Past}
       join : is_join σ e ≡ false
       join = is_false (is_join σ e) (not_T (is_join σ e) (λ j.
           rw n at (or_r (is_start σ e) (is_join σ e) j)))
-
-  -- At an event that is asked no further the tables may be others of the same.
-  pub plain-again : {same : Past} → Done σ e same → Plain σ e same
-  plain-again done = record {
-    faultless = z.faultless;
-    unjoined = z.unjoined;
-    done = done;
-  }
-
-  -- With the latest events it goes on with both.
-  pub plain-asking : {latest : List ℕ} → LatestEvents (λ f. true) (task σ) e latest → Asking σ e past latest
-  plain-asking events = record { faultless = z.faultless; done = z.done; events = events }
 
 -- ---- all events
 

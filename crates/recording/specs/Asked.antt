@@ -1,5 +1,5 @@
--- The state of the check right before event e: no earlier event has a fault, and what earlier events have done
--- is what the questions about it ask for.
+-- The state of the check right before event e: no earlier event has a fault, and what earlier events have
+-- done is what the questions about it ask for.
 use Rattle.std.specs.Prelude.{ℕ, ◌+◌, ◌*◌, ◌≤◌, ◌<◌, ◌≡◌, true, false, ◌||◌, cond, List, length}
 use Rattle.std.specs.Prelude.{Option, Some, None, Result, Ok, Err}
 use Rattle.model.specs.declared.Question.{Question}

@@ -21,8 +21,8 @@ ghost use Rattle.recording.specs.Asked.{code, Done, Answered, Plainly, Plain, Pl
 
 use model::{Question, Refusal};
 
-// What an event's record says that it does: to a variable, or to a lock. An acquire starts, and a release joins,
-// where its object stands for a task.
+// What an event's record says that it does: to a variable, or to a lock. An acquire starts, and a release
+// joins, where its object stands for a task.
 #[derive(Clone, Copy, Debug, PartialEq, Eq, Hash)]
 pub enum Op {
     Read = 0,
@@ -38,8 +38,8 @@ struct Locks {
     depths: [u16; 64],
 }
 
-// What earlier events have done: to the locks, of each variable the latest write, and of each task its start and
-// the latest join.
+// What earlier events have done: to the locks, of each variable the latest write, and of each task its start
+// and the latest join.
 #[derive(Drop)]
 struct Past {
     locks: Locks,
@@ -48,8 +48,8 @@ struct Past {
     joins: [u16; 16],
 }
 
-// What an event that no question refuses is found to be: it is asked no more, or its record, an acquire's or a
-// release's, names no lock.
+// What an event that no question refuses is found to be: it is asked no more, or its record, an acquire's or
+// a release's, names no lock.
 #[derive(Clone, Copy)]
 enum Asked {
     Passed,
@@ -102,7 +102,7 @@ pub fn object(records: &[u8], e: usize) -> u16
     u16::from_be_bytes([records[at] & 3, records[at + 1]])
 }
 
-// The lock of event e, whose object is one.
+// The lock that event e names.
 fn lock(records: &[u8], e: usize) -> usize
     requires { (1 ≤ e) × (2 * e ≤ length records.now) × (object (decode_all records.now) e < locks) }
     ensures { (result < locks) × (result ≡ object (decode_all records.now) e) }
@@ -110,7 +110,7 @@ fn lock(records: &[u8], e: usize) -> usize
     object(records, e) as usize
 }
 
-// The task that event e, a start or a join, starts or joins: its object stands for it.
+// The task that event e starts or joins: what its object stands for.
 fn target(records: &[u8], e: usize) -> usize
     requires { (1 ≤ e) × (2 * e ≤ length records.now) × (locks ≤ object (decode_all records.now) e)
         × (object (decode_all records.now) e < sync_objects) }
@@ -128,8 +128,8 @@ pub fn in_mask(mask: u64, l: u64) -> bool
 }
 
 impl Locks {
-    // Puts question 5 to acquire e: its task is then the holder of its lock, one deeper. A depth is at most e, so
-    // it fits.
+    // Puts question 5 to acquire e: its task is then the holder of its lock, one deeper. A depth is at most
+    // e, so it fits.
     fn enter(&mut self, records: &[u8], e: usize) -> Result<(), Question>
         requires { (1 ≤ e) × (2 * e ≤ length records.now) × (e < table_length)
             × T (enters (decode_all records.now) e)
@@ -151,7 +151,8 @@ impl Locks {
         Ok(())
     }
 
-    // Puts question 6 to release e: its task is then one less deep in its lock, and at depth 0 the holder no more.
+    // Puts question 6 to release e: its task is then one less deep in its lock, and at depth 0 the holder no
+    // more.
     fn leave(&mut self, records: &[u8], e: usize) -> Result<(), Question>
         requires { (1 ≤ e) × (2 * e ≤ length records.now) × T (leaves (decode_all records.now) e)
             × Holders (decode_all records.now) e self.old.holders self.old.depths }
@@ -174,8 +175,8 @@ impl Locks {
 }
 
 impl Past {
-    // Puts questions 4 to 7 to event e where it is an access or names a lock; what it does is then done as well.
-    // Otherwise it is found lockless, and nothing is done.
+    // Puts questions 4 to 7 to event e where it is an access or names a lock; what it does is then done as
+    // well. Otherwise it is found lockless, and nothing is done.
     fn ask_plain(&mut self, records: &[u8], e: usize) -> Result<Asked, Question>
         requires { (1 ≤ e) × (2 * e ≤ length records.now) × (e < table_length)
             × Done (decode_all records.now) e self.old }
@@ -213,36 +214,34 @@ impl Past {
             × LatestEvents (λ f. true) (task (decode_all records.now)) e latest.now }
         ensures { Answered (decode_all records.now) e result self.new }
     {
+        let t = task(records, e) as usize;
         let u = target(records, e);
-        if u == task(records, e) as usize
-            || self.starts[u] != 0
-            || self.joins[u] != 0
-            || latest[u] != 0
-        {
+        if u == t || self.starts[u] != 0 || self.joins[u] != 0 || latest[u] != 0 {
             return Err(Question::TaskNew);
         }
         self.starts[u] = e as u16;
         Ok(())
     }
 
-    // Puts the first part of question 16 to join e, whether it joins its own task: e is then the latest join of
-    // the task that it joins.
+    // Puts the first part of question 16 to join e, whether it joins its own task: e is then the latest join
+    // of the task that it joins.
     fn join(&mut self, records: &[u8], e: usize) -> Result<(), Question>
         requires { (1 ≤ e) × (2 * e ≤ length records.now) × (e < table_length)
             × T (is_join (decode_all records.now) e) × (object (decode_all records.now) e < sync_objects)
             × Done (decode_all records.now) e self.old }
         ensures { Answered (decode_all records.now) e result self.new }
     {
+        let t = task(records, e) as usize;
         let u = target(records, e);
-        if u == task(records, e) as usize {
+        if u == t {
             return Err(Question::TaskOpen);
         }
         self.joins[u] = e as u16;
         Ok(())
     }
 
-    // Puts questions 4 to 7 and 15, and of 16 whether a task joins itself, to event e: what it does is then done
-    // as well.
+    // Puts questions 4 to 7 and 15, and of 16 whether a task joins itself, to event e: what it does is then
+    // done as well.
     fn ask_object(&mut self, records: &[u8], e: usize, latest: &[u16; 16]) -> Result<(), Question>
         requires { (1 ≤ e) × (2 * e ≤ length records.now) × (e < table_length)
             × Done (decode_all records.now) e self.old
@@ -263,8 +262,8 @@ impl Past {
         }
     }
 
-    // Puts questions 4 to 7, 15 and 16 to event e: what it does is then done as well. That its task is over is
-    // asked last.
+    // Puts questions 4 to 7, 15 and 16 to event e: what it does is then done as well. That its task is over
+    // is asked last.
     fn ask(&mut self, records: &[u8], e: usize, latest: &mut [u16; 16]) -> Result<(), Question>
         requires { (1 ≤ e) × (2 * e ≤ length records.now) × (e < table_length)
             × Asking (decode_all records.now) e self.old latest.old }
@@ -281,8 +280,8 @@ impl Past {
         Ok(())
     }
 
-    // Puts the questions to the events before the first start or join, of which no task is over: the first event
-    // that is a start or a join or has no object, if any, before which this then stands.
+    // Puts the questions to the events before the first start or join, of which no task is over: the first
+    // event that is a start or a join or has no object, if any, before which this then stands.
     fn check_plain(&mut self, records: &[u8]) -> Result<Option<usize>, Refusal>
         requires { (length records.now ≤ records_length) × Done (decode_all records.now) 1 self.old }
         ensures { PlainTo records.now result self.new }
@@ -297,8 +296,8 @@ impl Past {
         Ok(None)
     }
 
-    // Puts the questions to the events from event `from` on, which a start or a join may be among: the earliest
-    // event with a "no" decides.
+    // Puts the questions to the events from event `from` on, which a start or a join may be among: the
+    // earliest event with a "no" decides.
     fn check_forked(&mut self, records: &[u8], from: usize) -> Result<(), Refusal>
         requires { (length records.now ≤ records_length) × (1 ≤ from) × (2 * from ≤ length records.now)
             × Plain (decode_all records.now) from self.old }

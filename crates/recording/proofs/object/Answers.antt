@@ -11,4 +11,5 @@ returns c =
     let a = c.args in
     let hi = get_or a.records.now (2 * (a.e - 1)) 0 in
     let is = rw (and_mask hi 2) at c.from_be_bytes.ensures in
-    omega (arith, is, c.type_inv.records (2 * (a.e - 1) + 1), record-object a.records.now a.e c.requires.0 c.requires.1)
+    let small = c.type_inv.records (2 * (a.e - 1) + 1) in
+    omega (arith, is, small, record-object a.records.now a.e c.requires.0 c.requires.1)

@@ -28,7 +28,8 @@ returns-then-self-l-clause-fault c =
 
 pub overflow_add-self : goal.overflow_add-self
 overflow_add-self c =
-    omega (arith, depth-fits (unpacked (goal.at.overflow_add-self c).After-task-own) c.requires.0, c.requires.2)
+    let u = unpacked (goal.at.overflow_add-self c).After-task-own in
+    omega (arith, depth-fits u c.requires.0, c.requires.2)
 
 pub returns : goal.returns
 returns c =

@@ -1,5 +1,5 @@
--- `recording::Past::ask_object` meets its contract: what names no lock is a start or a join, or has no object.
--- Assumes nothing.
+-- `recording::Past::ask_object` meets its contract: what names no lock is a start or a join, or has no
+-- object. Assumes nothing.
 use Prim.Native.Nat.{◌≤◌}
 use mathlib.Core.Path.{refl}
 use native.Mathlib.Omega.{arith}
@@ -13,7 +13,8 @@ use Rattle.recording.proofs.Past.ask_object.Goals.{After-object}
 
 -- The event's record names no lock, and nothing is done yet.
 lockless : (c : goal.After-object)
-    → IsLockless (decode_all c.args.records.now) c.args.e × Done (decode_all c.args.records.now) c.args.e c.ask_plain.new.self
+    → IsLockless (decode_all c.args.records.now) c.args.e
+    × Done (decode_all c.args.records.now) c.args.e c.ask_plain.new.self
 lockless c = rw c.in-Lockless.is at c.in_ok-ask_plain.ensures
 
 -- So it is an acquire's or a release's.

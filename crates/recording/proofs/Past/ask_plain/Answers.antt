@@ -33,7 +33,8 @@ returns-in-Write c =
 pub enter-requires : goal.enter-requires
 enter-requires c =
     let s = c.requires in
-    let entered = enters_is _ _ c.in-Acquire.ensures (omega (arith, c.if-at-ge64.false, c.object-at.ensures)) refl in
+    let entered = enters_is _ _ c.in-Acquire.ensures (omega (arith, c.if-at-ge64.false, c.object-at.ensures))
+    refl in
     (s.0, s.1, s.2, entered, s.3.holder)
 
 pub returns-in_err-enter-in-Acquire : goal.returns-in_err-enter-in-Acquire
@@ -51,7 +52,8 @@ returns-in_ok-enter-in-Acquire c =
 pub leave-requires : goal.leave-requires
 leave-requires c =
     let s = c.requires in
-    let left = leaves_is _ _ c.in-Release.ensures (omega (arith, c.if-at-ge64-2.false, c.object-at.ensures)) refl in
+    let left = leaves_is _ _ c.in-Release.ensures (omega (arith, c.if-at-ge64-2.false, c.object-at.ensures))
+    refl in
     (s.0, s.1, left, s.3.holder)
 
 pub returns-in_err-leave-in-Release : goal.returns-in_err-leave-in-Release
