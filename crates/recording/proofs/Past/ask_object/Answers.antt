@@ -50,6 +50,6 @@ join-requires c =
       s.1,
       s.2,
       rw (joins_is _ _ c.operation-op.ensures none.beyond release) tt,
-      omega (arith, c.if-object-ge80.false, c.object.ensures),
+      omega (arith, c.object.ensures, c.if-object-ge80.false),
       done,
     )
