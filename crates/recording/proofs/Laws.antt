@@ -18,7 +18,7 @@ use Rattle.model.specs.Trace.{Trace, tasks, locks, sync_objects, variables, at, 
 use Rattle.model.specs.Trace.{is_write}
 use Rattle.model.specs.Tasks.{is_start, is_join, target}
 use Rattle.model.specs.Relations.{holds, writer}
-use Rattle.model.specs.WellFormed.{is_free, is_new, fault}
+use Rattle.model.specs.WellFormed.{is_free, is_new}
 use Rattle.laws.specs.Walked.{Holders, LatestEvents}
 use Rattle.laws.proofs.Numbers.{number_positive}
 use Rattle.laws.proofs.LatestEvents.{latest-set, latest_keep, latest-writer}
@@ -214,11 +214,7 @@ module _ {σ : Trace} {e op o : ℕ} {past : Past}
     unlocked =
         let (no-enter, no-leave) = tasks_is σ e is_op beyond in holders_access no-enter no-leave z.holder
 
-    -- A start that question 15 refuses,
-    pub start_refused : op ≡ 2 → is_new σ e ≡ false → fault σ e ≡ 15
-    start_refused a n = fault-start σ e is_op a beyond small ∙ rw n
-
-    -- and one that it passes.
+    -- A start that question 15 passes.
     pub started : op ≡ 2 → is_new σ e ≡ true → (ss : List ℕ) → length ss ≡ tasks
         → LatestEvents (is_start σ) (target σ) (suc e) ss → Passes σ e (record past { starts = ss })
     started a n ss long y = (
@@ -234,11 +230,7 @@ module _ {σ : Trace} {e op o : ℕ} {past : Past}
       }),
     )
 
-    -- A join of the own task,
-    pub join_refused : op ≡ 3 → target σ e ≡ task σ e → fault σ e ≡ 16
-    join_refused a q = fault-join σ e is_op a beyond small ∙ rw (eq-eqb (target σ e) (task σ e) q)
-
-    -- and one of another.
+    -- A join of another task than the own.
     pub joined : op ≡ 3 → target σ e ≢ task σ e → (js : List ℕ) → length js ≡ tasks
         → LatestEvents (is_join σ) (target σ) (suc e) js → Passes σ e (record past { joins = js })
     joined a d js long y = (

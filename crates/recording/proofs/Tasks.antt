@@ -3,101 +3,72 @@
 use Prim.Native.Nat.{ℕ, ◌<◌}
 use mathlib.Core.Path.{◌≡◌, refl, sym, ◌∙◌}
 use mathlib.Core.Logic.{◌≢◌}
-use mathlib.Core.Bool.{true, false, not, ◌&&◌, and-false}
+use mathlib.Core.Bool.{true, false, not, ◌&&◌}
 use mathlib.Core.List.{List}
 use native.Mathlib.Omega.{arith}
+use borrow.Author.Tests.{eq-eqb}
 use lib.Dec.{T, eqb}
 use lib.ListN.{length, get_or, set, length-set}
-use borrow.Author.Tests.{eq-eqb, ne_eqb}
 use Rattle.model.specs.Trace.{Trace, tasks, sync_objects, at, task, object}
 use Rattle.model.specs.Tasks.{is_start, is_join, target}
 use Rattle.model.specs.WellFormed.{is_new, fault}
 use Rattle.laws.specs.Walked.{LatestEvents}
 use Rattle.laws.proofs.Tasks.{start-object, join-object, starts_iff, joins_iff, starts_record, joins_record}
 use Rattle.laws.proofs.LatestEvents.{latest-set, latest_new}
+use Rattle.laws.proofs.Faults.{fault-start, fault-join}
 use Rattle.recording.specs.declared.Past.{Past}
 use Rattle.recording.specs.Asked.{Done, Passes}
-use Rattle.recording.proofs.Laws.{Coming, start_refused, started, join_refused, joined}
+use Rattle.recording.proofs.Laws.{Coming, started, joined}
 
--- Start or join e of task u by task t, with what earlier events have done.
-pub record Forking (σ : Trace) (e t u : ℕ) (past : Past) : Type 0 where
-  pub small : object σ e < sync_objects
-  pub task_is : (t < tasks) × (t ≡ task σ e)
-  pub target_is : (u < tasks) × (u ≡ target σ e)
-  pub done : Done σ e past
+module _ (σ : Trace) (e : ℕ) where
+  start_op : T (is_start σ e) → 2 ≡ (at σ e).op
+  start_op a = sym ((starts_record σ (target σ e) e).0 ((starts_iff σ (target σ e) e).1 (a, refl))).0
 
-module _ {σ : Trace} {e t u : ℕ} {past : Past} (s : Forking σ e t u past) where
-  coming : {op : ℕ} → (at σ e).op ≡ op → Coming σ e op (object σ e) past
-  coming is = record { op_is = sym is; object_is = (omega (arith, s.small), refl); done = s.done }
+  join_op : T (is_join σ e) → 3 ≡ (at σ e).op
+  join_op a = sym ((joins_record σ (target σ e) e).0 ((joins_iff σ (target σ e) e).1 (a, refl))).0
 
-  -- ---- starts
+  -- A start of a task that is not new is refused.
+  pub start_refused : T (is_start σ e) → object σ e < sync_objects → is_new σ e ≡ false → fault σ e ≡ 15
+  start_refused a small n = fault-start σ e (start_op a) refl (start-object σ e a) small ∙ rw n
 
-  module _ (a : T (is_start σ e)) {latest : List ℕ} (long : length latest ≡ tasks)
-      (events : LatestEvents (λ f. true) (task σ) e latest) where
-    starting : Coming σ e 2 (object σ e) past
-    starting = coming ((starts_record σ (target σ e) e).0 ((starts_iff σ (target σ e) e).1 (a, refl))).0
+-- A start or a join with the task that it names, and what earlier events have done.
+module _ {σ : Trace} {e u : ℕ} {past : Past} (small : object σ e < sync_objects)
+    (target_is : (u < tasks) × (u ≡ target σ e)) (z : Done σ e past) where
+  coming : {op : ℕ} → op ≡ (at σ e).op → Coming σ e op (object σ e) past
+  coming is = record { op_is = is; object_is = (omega (arith, small), refl); done = z }
 
-    new_is : is_new σ e
-        ≡ (not (eqb u t) && eqb (get_or past.starts u 0) 0 && eqb (get_or past.joins u 0) 0
-        && eqb (get_or latest u 0) 0)
-    new_is =
-        rw (s.task_is.1, s.target_is.1)
-        (latest_new σ e latest past.starts events s.done.started past.joins s.done.joined
-        (omega (arith, s.target_is, long)) (omega (arith, s.target_is, s.done.starts_long))
-        (omega (arith, s.target_is, s.done.joins_long)))
+  -- Whether a start's task is new, by what was noted of it.
+  pub new_is : {t : ℕ} {latest : List ℕ} → t ≡ task σ e → length latest ≡ tasks
+      → LatestEvents (λ f. true) (task σ) e latest
+      → (not (eqb u t) && eqb (get_or past.starts u 0) 0 && eqb (get_or past.joins u 0) 0
+      && eqb (get_or latest u 0) 0)
+      ≡ is_new σ e
+  new_is {latest = latest} q long events =
+      rw (q, target_is.1)
+      (sym (latest_new σ e latest past.starts events z.started past.joins z.joined
+      (omega (arith, target_is, long)) (omega (arith, target_is, z.starts_long))
+      (omega (arith, target_is, z.joins_long))))
 
-    refused : is_new σ e ≡ false → fault σ e ≡ 15
-    refused = start_refused starting (start-object σ e a) s.small refl
+  -- A start of a new task is noted.
+  pub start_passed : T (is_start σ e) → is_new σ e ≡ true
+      → Passes σ e (record past { starts = set past.starts u e })
+  start_passed a n =
+      started (coming (start_op σ e a)) (start-object σ e a) small refl n _
+      (length-set past.starts u e ∙ z.starts_long)
+      (rw target_is.1 (latest-set (is_start σ) (target σ) e past.starts z.started a
+      (omega (arith, target_is, z.starts_long))))
 
-    -- A start of the own task,
-    pub start_own : u ≡ t → fault σ e ≡ 15
-    start_own q = refused (new_is ∙ rw (eq-eqb u t q))
-
-    -- of one that was started,
-    pub start-again : get_or past.starts u 0 ≢ 0 → fault σ e ≡ 15
-    start-again d = refused (new_is ∙ rw (ne_eqb (get_or past.starts u 0) 0 d, and-false))
-
-    -- of one that was joined,
-    pub start_late : get_or past.joins u 0 ≢ 0 → fault σ e ≡ 15
-    start_late d = refused (new_is ∙ rw (ne_eqb (get_or past.joins u 0) 0 d, and-false))
-
-    -- of one with events,
-    pub start_busy : get_or latest u 0 ≢ 0 → fault σ e ≡ 15
-    start_busy d = refused (new_is ∙ rw (ne_eqb (get_or latest u 0) 0 d, and-false))
-
-    -- and of a new one.
-    pub start_new : u ≢ t → get_or past.starts u 0 ≡ 0 → get_or past.joins u 0 ≡ 0 → get_or latest u 0 ≡ 0
-        → Passes σ e (record past { starts = set past.starts u e })
-    start_new a′ b c d =
-        started starting (start-object σ e a) s.small refl new _
-        (length-set past.starts u e ∙ s.done.starts_long)
-        (rw s.target_is.1 (latest-set (is_start σ) (target σ) e past.starts s.done.started a
-        (omega (arith, s.target_is, s.done.starts_long))))
-      where
-        new : is_new σ e ≡ true
-        new =
-            new_is ∙ rw (
-              ne_eqb u t a′,
-              eq-eqb (get_or past.starts u 0) 0 b,
-              eq-eqb (get_or past.joins u 0) 0 c,
-              eq-eqb (get_or latest u 0) 0 d,
-            )
-
-  -- ---- joins
-
-  module _ (a : T (is_join σ e)) where
-    joining : Coming σ e 3 (object σ e) past
-    joining = coming ((joins_record σ (target σ e) e).0 ((joins_iff σ (target σ e) e).1 (a, refl))).0
-
+  module _ (a : T (is_join σ e)) {t : ℕ} (task_is : t ≡ task σ e) where
     -- A join of the own task,
     pub join_own : u ≡ t → fault σ e ≡ 16
     join_own q =
-        join_refused joining (join-object σ e a) s.small refl (sym s.target_is.1 ∙ q ∙ s.task_is.1)
+        fault-join σ e (join_op σ e a) refl (join-object σ e a) small
+        ∙ rw (eq-eqb (target σ e) (task σ e) (sym target_is.1 ∙ q ∙ task_is))
 
     -- and of another one.
     pub join_other : u ≢ t → Passes σ e (record past { joins = set past.joins u e })
     join_other d =
-        joined joining (join-object σ e a) s.small refl (λ q. d (s.target_is.1 ∙ q ∙ sym s.task_is.1)) _
-        (length-set past.joins u e ∙ s.done.joins_long)
-        (rw s.target_is.1 (latest-set (is_join σ) (target σ) e past.joins s.done.joined a
-        (omega (arith, s.target_is, s.done.joins_long))))
+        joined (coming (join_op σ e a)) (join-object σ e a) small refl (λ q. d (target_is.1 ∙ q ∙ sym task_is)) _
+        (length-set past.joins u e ∙ z.joins_long)
+        (rw target_is.1 (latest-set (is_join σ) (target σ) e past.joins z.joined a
+        (omega (arith, target_is, z.joins_long))))

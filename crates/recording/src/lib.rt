@@ -206,6 +206,19 @@ impl Past {
         Ok(Asked::Passed)
     }
 
+    // The task that start e starts is new: not the start's own, and without a start, a join or an event.
+    fn is_new(&self, records: &[u8], e: usize, latest: &[u16; 16]) -> bool
+        requires { (1 ≤ e) × (2 * e ≤ length records.now)
+            × T (is_start (decode_all records.now) e) × (object (decode_all records.now) e < sync_objects)
+            × Done (decode_all records.now) e self.now
+            × LatestEvents (λ f. true) (task (decode_all records.now)) e latest.now }
+        ensures { result ≡ is_new (decode_all records.now) e }
+    {
+        let t = task(records, e) as usize;
+        let u = target(records, e);
+        (u != t) & (self.starts[u] == 0) & (self.joins[u] == 0) & (latest[u] == 0)
+    }
+
     // Puts question 15 to start e, with the latest event of each task: e is then the start of its task.
     fn start(&mut self, records: &[u8], e: usize, latest: &[u16; 16]) -> Result<(), Question>
         requires { (1 ≤ e) × (2 * e ≤ length records.now) × (e < table_length)
@@ -214,12 +227,10 @@ impl Past {
             × LatestEvents (λ f. true) (task (decode_all records.now)) e latest.now }
         ensures { Answered (decode_all records.now) e result self.new }
     {
-        let t = task(records, e) as usize;
-        let u = target(records, e);
-        if u == t || self.starts[u] != 0 || self.joins[u] != 0 || latest[u] != 0 {
+        if !self.is_new(records, e, latest) {
             return Err(Question::TaskNew);
         }
-        self.starts[u] = e as u16;
+        self.starts[target(records, e)] = e as u16;
         Ok(())
     }
 
