@@ -1,13 +1,13 @@
 -- What one event is refused with and what it does to the tables of the check, by its operation and object.
 -- Assumes nothing.
 use Prim.Native.Nat.{ℕ, suc, ◌+◌, ◌≤◌, ◌<◌}
-use mathlib.Core.Path.{◌≡◌, refl, sym, ◌∙◌}
+use mathlib.Core.Path.{◌≡◌, refl, sym, ap, ◌∙◌}
 use mathlib.Core.Logic.{◌≢◌}
 use mathlib.Core.Bool.{Bool, true, false, cond, ◌||◌}
 use mathlib.Core.List.{List}
 use native.Mathlib.Numerals.{add-one}
 use native.Mathlib.Omega.{arith}
-use lib.Dec.{T}
+use lib.Dec.{T, eqb}
 use lib.ListN.{length, get_or, set, length-set}
 use borrow.Author.Tests.{eq-eqb, ne_eqb}
 use Rattle.std.specs.Prelude.{Ok, Err}
@@ -61,6 +61,21 @@ code_release Read h d = absurd (omega (arith, h))
 code_release Write h d = absurd (omega (arith, h))
 code_release Acquire h d = absurd (d refl)
 code_release Release h d = refl
+
+-- The operation with a number.
+op_of : ℕ → Op
+op_of n = cond (eqb n 0) Read (cond (eqb n 1) Write (cond (eqb n 2) Acquire Release))
+
+op_of_code : (o : Op) → op_of (code o) ≡ o
+unfolding op_of
+op_of_code Read = refl
+op_of_code Write = refl
+op_of_code Acquire = refl
+op_of_code Release = refl
+
+-- Two operations have two numbers.
+pub code_apart : (o p : Op) → o ≢ p → code o ≢ code p
+code_apart o p d q = d (sym (op_of_code o) ∙ ap op_of q ∙ op_of_code p)
 
 -- ---- an event
 

@@ -68,7 +68,8 @@ module _ {σ : Trace} {e u : ℕ} {past : Past} (small : object σ e < sync_obje
     -- and of another one.
     pub join_other : u ≢ t → Passes σ e (record past { joins = set past.joins u e })
     join_other d =
-        joined (coming (join_op σ e a)) (join-object σ e a) small refl (λ q. d (target_is.1 ∙ q ∙ sym task_is)) _
+        joined (coming (join_op σ e a)) (join-object σ e a) small refl
+        (λ q. d (target_is.1 ∙ q ∙ sym task_is)) _
         (length-set past.joins u e ∙ z.joins_long)
         (rw target_is.1 (latest-set (is_join σ) (target σ) e past.joins z.joined a
         (omega (arith, target_is, z.joins_long))))
