@@ -1,6 +1,6 @@
 -- What one event is refused with and what it does to the tables of the check, by its operation and object.
 -- Assumes nothing.
-use Prim.Native.Nat.{ℕ, suc, ◌+◌, ◌-◌, ◌≤◌, ◌<◌}
+use Prim.Native.Nat.{ℕ, suc, ◌+◌, ◌≤◌, ◌<◌}
 use mathlib.Core.Path.{◌≡◌, refl, sym, ap, ◌∙◌}
 use mathlib.Core.Logic.{◌≢◌}
 use mathlib.Core.Bool.{Bool, true, false, cond, ◌||◌}
@@ -10,27 +10,29 @@ use native.Mathlib.Omega.{arith}
 use lib.Dec.{T, eqb}
 use lib.ListN.{length, get_or, set, length-set}
 use borrow.Author.Tests.{eq-eqb, ne_eqb}
-use Rattle.std.specs.Prelude.{Result, Ok, Err, OnOk}
+use Rattle.std.specs.Prelude.{Ok, Err}
 use Rattle.model.specs.declared.Question.{Question}
+use Rattle.model.specs.declared.Question.TheVariants.{Written}
 use Rattle.model.specs.Refused.{number}
-use Rattle.model.specs.Answers.{fault_of}
-use Rattle.model.specs.Trace.{Trace, tasks, locks, variables, at, task, object, is_write}
+use Rattle.model.specs.Trace.{Trace, tasks, locks, sync_objects, variables, at, task, object}
+use Rattle.model.specs.Trace.{is_write}
 use Rattle.model.specs.Tasks.{is_start, is_join, target}
 use Rattle.model.specs.Relations.{holds, writer}
-use Rattle.model.specs.WellFormed.{is_free, is_new, fault}
+use Rattle.model.specs.WellFormed.{is_free, is_new}
 use Rattle.laws.specs.Walked.{Holders, LatestEvents}
 use Rattle.laws.proofs.Numbers.{number_positive}
 use Rattle.laws.proofs.LatestEvents.{latest-set, latest_keep, latest-writer}
 use Rattle.laws.proofs.Kept.{holders_access}
 use Rattle.laws.proofs.Operations.{is_read_op, is_write_op, is_start-none, is_join-none, accesses_is}
 use Rattle.laws.proofs.Operations.{is_start_lock, is_join_lock, tasks_is}
-use Rattle.laws.proofs.Faults.{fault-object, fault_acquire, fault_release, fault-start, fault-join}
+use Rattle.laws.proofs.Faults.{fault_acquire, fault_release, fault-start, fault-join}
 use Rattle.laws.proofs.Faults.{fault_write, fault_read}
 use Rattle.recording.specs.declared.Past.{Past}
 use Rattle.recording.specs.declared.Locks.{Locks}
 use Rattle.recording.specs.declared.Op.{Op}
 use Rattle.recording.specs.declared.Op.TheVariants.{Read, Write, Acquire, Release}
-use Rattle.recording.specs.Asked.{code, Done, IsLockless, Passes, Answered}
+use Rattle.recording.specs.declared.Asked.TheVariants.{Passed}
+use Rattle.recording.specs.Asked.{code, Done, Passes, Plainly}
 
 -- ---- numbers of questions
 
@@ -39,18 +41,10 @@ passing : (b : Bool) (k x : ℕ) → k ≢ 0 → cond b 0 k ≡ 0 → cond b x k
 passing true k x d y = refl
 passing false k x d y = absurd (d y)
 
-own-passing : (b : Bool) (k x : ℕ) → k ≢ 0 → cond b k 0 ≡ 0 → cond b k x ≡ x
-own-passing true k x d y = absurd (d y)
-own-passing false k x d y = refl
-
 -- and one that refuses gives its number.
 refusing : (b : Bool) (q : Question) (k x : ℕ) → number q ≡ cond b 0 k → cond b x k ≡ number q
 refusing true q k x y = absurd (omega (arith, y, number_positive q))
 refusing false q k x y = sym y
-
-own-refusing : (b : Bool) (q : Question) (k x : ℕ) → number q ≡ cond b k 0 → cond b k x ≡ number q
-own-refusing true q k x y = sym y
-own-refusing false q k x y = absurd (omega (arith, y, number_positive q))
 
 -- ---- operations
 
@@ -87,18 +81,9 @@ code_apart o p d q = d (sym (op_of_code o) ∙ ap op_of q ∙ op_of_code p)
 
 -- An event with its operation and object, to which the check has come.
 pub record Coming (σ : Trace) (e op o : ℕ) (past : Past) : Type 0 where
-  pub op_is : (op < 4) × (op ≡ (at σ e).op)
+  pub op_is : op ≡ (at σ e).op
   pub object_is : (o < variables) × (o ≡ object σ e)
   pub done : Done σ e past
-
-pub coming : {σ : Trace} {e op o : ℕ} {past : Past}
-    → (op < 4) × (op ≡ (at σ e).op) → (o < variables) × (o ≡ object σ e)
-    → Done σ e past → Coming σ e op o past
-coming q r z = record {
-  op_is = q;
-  object_is = r;
-  done = z;
-}
 
 module _ {σ : Trace} {e op o : ℕ} {past : Past}
     (u : Coming σ e op o past) where
@@ -106,7 +91,7 @@ module _ {σ : Trace} {e op o : ℕ} {past : Past}
   z = u.done
 
   is_op : op ≡ (at σ e).op
-  is_op = u.op_is.1
+  is_op = u.op_is
 
   is-object : o ≡ object σ e
   is-object = u.object_is.1
@@ -125,7 +110,7 @@ module _ {σ : Trace} {e op o : ℕ} {past : Past}
 
   module _ (a : op < 2) where
     -- It is no start and no join.
-    pub access_forks : (is_start σ e || is_join σ e) ≡ false
+    access_forks : (is_start σ e || is_join σ e) ≡ false
     access_forks = rw (is_start-none σ e is_op (omega arith), is_join-none σ e is_op (omega arith))
 
     -- It leaves holders, starts and joins.
@@ -150,25 +135,31 @@ module _ {σ : Trace} {e op o : ℕ} {past : Past}
       (omega (arith, z.writes_long, u.object_is)))
 
   -- A read whose variable has no write.
-  pub read_refused : op ≡ 0 → get_or past.writes o 0 ≡ 0 → fault σ e ≡ 7
-  read_refused a n = fault_read σ e is_op a ∙ rw (sym (last_write a) ∙ n)
+  pub read_refused : op ≡ 0 → get_or past.writes o 0 ≡ 0 → Plainly σ e (Err Written) past
+  read_refused a n = (access_forks (omega arith), fault_read σ e is_op a ∙ rw (sym (last_write a) ∙ n))
 
   -- A read of a variable that was written.
-  pub read_passed : op ≡ 0 → get_or past.writes o 0 ≢ 0 → Passes σ e past
+  pub read_passed : op ≡ 0 → get_or past.writes o 0 ≢ 0 → Plainly σ e (Ok Passed) past
   read_passed a n = (
-    fault_read σ e is_op a ∙ rw (ne_eqb (writer σ e) 0 (λ q. n (last_write a ∙ q))),
-    accessed (omega arith) past.writes z.writes_long (unwritten (omega arith)),
+    access_forks (omega arith),
+    (
+      fault_read σ e is_op a ∙ rw (ne_eqb (writer σ e) 0 (λ q. n (last_write a ∙ q))),
+      accessed (omega arith) past.writes z.writes_long (unwritten (omega arith)),
+    ),
   )
 
   -- A write.
-  pub written : op ≡ 1 → Passes σ e (record past { writes = set past.writes o e })
+  pub written : op ≡ 1 → Plainly σ e (Ok Passed) (record past { writes = set past.writes o e })
   written a =
       rw is-object (
-        fault_write σ e is_op a,
-        accessed (omega arith) (set past.writes (object σ e) e)
-            (length-set past.writes (object σ e) e ∙ z.writes_long)
-            (latest-set (is_write σ) (object σ) e past.writes z.written write
-            (omega (arith, z.writes_long, u.object_is))),
+        access_forks (omega arith),
+        (
+          fault_write σ e is_op a,
+          accessed (omega arith) (set past.writes (object σ e) e)
+              (length-set past.writes (object σ e) e ∙ z.writes_long)
+              (latest-set (is_write σ) (object σ) e past.writes z.written write
+              (omega (arith, z.writes_long, u.object_is))),
+        ),
       )
     where
       write : T (is_write σ e)
@@ -176,21 +167,17 @@ module _ {σ : Trace} {e op o : ℕ} {past : Past}
 
   -- ---- acquires and releases
 
-  -- A record that names no lock.
-  pub lockless : op ≢ 0 → op ≢ 1 → 64 ≤ o → IsLockless σ e
-  lockless a b h = record { locking = omega (arith, is_op); beyond = omega (arith, is-object) }
-
-  module _ (h : o < 64) (n : op ≢ 1) where
+  module _ (h : o < 64) where
     lock : object σ e < locks
     lock = omega (arith, is-object)
 
     -- It is no start and no join.
-    pub lock_forks : (is_start σ e || is_join σ e) ≡ false
+    lock_forks : (is_start σ e || is_join σ e) ≡ false
     lock_forks = rw (is_start_lock σ e is_op lock, is_join_lock σ e is_op lock)
 
-    locked : (held : Locks) → Holders σ (e + 1) held.holders held.depths
+    locked : op ≢ 1 → (held : Locks) → Holders σ (e + 1) held.holders held.depths
         → Done σ (e + 1) (record past { locks = held })
-    locked held y =
+    locked n held y =
         rw (add-one e) (record {
           holder = rw (add-one e) at y;
           writes_long = z.writes_long;
@@ -202,87 +189,74 @@ module _ {σ : Trace} {e op o : ℕ} {past : Past}
         })
 
     -- An acquire that question 5 refuses,
-    pub acquire_refused : op ≡ 2 → (q : Question) → number q ≡ cond (is_free σ e) 0 5 → fault σ e ≡ number q
-    acquire_refused a q y =
-        fault_acquire σ e is_op a lock ∙ refusing (is_free σ e) q _ _ y
+    pub acquire_refused : op ≡ 2 → (q : Question) → number q ≡ cond (is_free σ e) 0 5
+        → Plainly σ e (Err q) past
+    acquire_refused a q y = (lock_forks, fault_acquire σ e is_op a lock ∙ refusing (is_free σ e) q _ _ y)
 
     -- and one that it passes.
     pub acquired : op ≡ 2 → (held : Locks) → ◌≡◌ {A = ℕ} 0 (cond (is_free σ e) 0 5)
-        → Holders σ (e + 1) held.holders held.depths → Passes σ e (record past { locks = held })
-    acquired a held y k =
-        (fault_acquire σ e is_op a lock ∙ passing (is_free σ e) _ _ (omega arith) (sym y), locked held k)
+        → Holders σ (e + 1) held.holders held.depths → Plainly σ e (Ok Passed) (record past { locks = held })
+    acquired a held y k = (
+      lock_forks,
+      (
+        fault_acquire σ e is_op a lock ∙ passing (is_free σ e) _ _ (omega arith) (sym y),
+        locked (omega arith) held k,
+      ),
+    )
 
     -- A release that question 6 refuses,
     pub release_refused : op ≡ 3 → (q : Question) → number q ≡ cond (holds σ e (task σ e) (object σ e)) 0 6
-        → fault σ e ≡ number q
+        → Plainly σ e (Err q) past
     release_refused a q y =
-        fault_release σ e is_op a lock ∙ refusing (holds σ e (task σ e) (object σ e)) q _ _ y
+        (lock_forks, fault_release σ e is_op a lock ∙ refusing (holds σ e (task σ e) (object σ e)) q _ _ y)
 
     -- and one that it passes.
     pub released : op ≡ 3 → (held : Locks) → ◌≡◌ {A = ℕ} 0 (cond (holds σ e (task σ e) (object σ e)) 0 6)
-        → Holders σ (e + 1) held.holders held.depths → Passes σ e (record past { locks = held })
+        → Holders σ (e + 1) held.holders held.depths → Plainly σ e (Ok Passed) (record past { locks = held })
     released a held y k = (
-      fault_release σ e is_op a lock ∙ passing (holds σ e (task σ e) (object σ e)) _ _ (omega arith) (sym y),
-      locked held k,
+      lock_forks,
+      (
+        fault_release σ e is_op a lock
+            ∙ passing (holds σ e (task σ e) (object σ e)) _ _ (omega arith) (sym y),
+        locked (omega arith) held k,
+      ),
     )
 
   -- ---- starts and joins
 
-  -- An acquire or release record with an object that stands for nothing.
-  pub no-object : op ≢ 0 → op ≢ 1 → 80 ≤ o → fault σ e ≡ 4
-  no-object a b h = fault-object σ e is_op (omega arith) (omega (arith, u.op_is)) (omega arith)
-
-  module _ (h : 64 ≤ o) (k : o < 80) (n : op ≢ 1) where
-    beyond : locks ≤ object σ e
-    beyond = omega (arith, is-object)
-
-    small : object σ e < 80
-    small = omega (arith, is-object)
-
+  module _ (beyond : locks ≤ object σ e) (small : object σ e < sync_objects) where
     unlocked : Holders σ (suc e) past.locks.holders past.locks.depths
     unlocked =
         let (no-enter, no-leave) = tasks_is σ e is_op beyond in holders_access no-enter no-leave z.holder
 
-    -- The task that the object stands for.
-    pub target_is : o - 64 ≡ target σ e
-    unfolding target
-    target_is = rw is-object
-
-    -- A start, by what question 15 answers.
-    pub started : op ≡ 2 → (answer : Result (Unit {0}) Question) (ss : List ℕ) → length ss ≡ tasks
-        → fault_of answer ≡ cond (is_new σ e) 0 15
-        → OnOk answer (LatestEvents (is_start σ) (target σ) (e + 1) ss)
-        → Answered σ e answer (record past { starts = ss })
-    started a (Ok _) ss long y f = (
-      fault-start σ e is_op a beyond small ∙ passing (is_new σ e) _ _ (omega arith) (sym y),
+    -- A start that question 15 passes.
+    pub started : op ≡ 2 → is_new σ e ≡ true → (ss : List ℕ) → length ss ≡ tasks
+        → LatestEvents (is_start σ) (target σ) (suc e) ss → Passes σ e (record past { starts = ss })
+    started a n ss long y = (
+      fault-start σ e is_op a beyond small ∙ rw n,
       rw (add-one e) (record {
         holder = unlocked;
         writes_long = z.writes_long;
-        written = unwritten n;
+        written = unwritten (omega arith);
         starts_long = long;
-        started = rw (add-one e) at f;
+        started = y;
         joins_long = z.joins_long;
         joined = unjoined (is_join-none σ e is_op (omega arith));
       }),
     )
-    started a (Err q) ss long y f = fault-start σ e is_op a beyond small ∙ refusing (is_new σ e) q _ _ y
 
-    -- A join, by what the first part of question 16 answers.
-    pub joined : op ≡ 3 → (answer : Result (Unit {0}) Question) (js : List ℕ) → length js ≡ tasks
-        → fault_of answer ≡ cond (eqb (target σ e) (task σ e)) 16 0
-        → OnOk answer (LatestEvents (is_join σ) (target σ) (e + 1) js)
-        → Answered σ e answer (record past { joins = js })
-    joined a (Ok _) js long y f = (
-      fault-join σ e is_op a beyond small ∙ own-passing (eqb (target σ e) (task σ e)) _ _ (omega arith) (sym y),
+    -- A join of another task than the own.
+    pub joined : op ≡ 3 → target σ e ≢ task σ e → (js : List ℕ) → length js ≡ tasks
+        → LatestEvents (is_join σ) (target σ) (suc e) js → Passes σ e (record past { joins = js })
+    joined a d js long y = (
+      fault-join σ e is_op a beyond small ∙ rw (ne_eqb (target σ e) (task σ e) d),
       rw (add-one e) (record {
         holder = unlocked;
         writes_long = z.writes_long;
-        written = unwritten n;
+        written = unwritten (omega arith);
         starts_long = z.starts_long;
         started = unstarted (is_start-none σ e is_op (omega arith));
         joins_long = long;
-        joined = rw (add-one e) at f;
+        joined = y;
       }),
     )
-    joined a (Err q) js long y f =
-        fault-join σ e is_op a beyond small ∙ own-refusing (eqb (target σ e) (task σ e)) q _ _ y

@@ -14,7 +14,7 @@ use Rattle.model.specs.Trace.{Trace, tasks, locks, task, object, enters, leaves}
 use Rattle.model.specs.Relations.{holds}
 use Rattle.model.specs.WellFormed.{is_free}
 use Rattle.laws.specs.Walked.{Kept, Holders}
-use Rattle.laws.proofs.Kept.{kept-fits, kept-holds, kept_free, kept_first, kept_own, kept_again, kept_freed}
+use Rattle.laws.proofs.Kept.{kept-fits, kept-holds, kept_free, kept_first, kept_again, kept_freed}
 use Rattle.laws.proofs.Kept.{kept_lowered, holders_holder, holders-depth}
 
 -- Question 5 passes acquire e, and the tables that it leaves.
@@ -71,7 +71,8 @@ module _ {σ : Trace} {e t o : ℕ} {holders depths : List ℕ} (u : Locked σ e
   free_is = rw (u.task_is.1, add-one (task σ e)) (kept_free at_lock)
 
   -- An acquire of a lock that another task holds.
-  pub enter_refused : get_or holders o 0 ≢ 0 → get_or holders o 0 ≢ t + 1 → ◌≡◌ {A = ℕ} 5 (cond (is_free σ e) 0 5)
+  pub enter_refused : get_or holders o 0 ≢ 0 → get_or holders o 0 ≢ t + 1
+      → ◌≡◌ {A = ℕ} 5 (cond (is_free σ e) 0 5)
   enter_refused n m = rw (free_is, ne_eqb (get_or holders o 0) 0 n, ne_eqb (get_or holders o 0) (t + 1) m)
 
   module _ (a : T (enters σ e)) where
@@ -98,16 +99,13 @@ module _ {σ : Trace} {e t o : ℕ} {holders depths : List ℕ} (u : Locked σ e
   own = rw (u.task_is.1, add-one (task σ e)) (kept-holds at_lock (task σ e) small)
 
   -- A release by a task that does not hold the lock.
-  pub leave_refused : get_or holders o 0 ≢ t + 1 → ◌≡◌ {A = ℕ} 6 (cond (holds σ e (task σ e) (object σ e)) 0 6)
+  pub leave_refused : get_or holders o 0 ≢ t + 1
+      → ◌≡◌ {A = ℕ} 6 (cond (holds σ e (task σ e) (object σ e)) 0 6)
   leave_refused n = rw (own, ne_eqb (get_or holders o 0) (t + 1) n)
 
   module _ (n : get_or holders o 0 ≡ t + 1) where
     passed : (h d : List ℕ) → Holders σ (e + 1) h d → Left σ e h d
     passed h d z = (rw (own, eq-eqb (get_or holders o 0) (t + 1) n), z)
-
-    -- The depth of a lock that the event's task holds is above 0.
-    pub leave_deep : 0 < get_or depths o 0
-    leave_deep = (kept_own small (own_lock n)).1
 
     module _ (a : T (leaves σ e)) where
       -- A release to depth 0.

@@ -8,7 +8,7 @@ use mathlib.Core.List.{List}
 use native.Mathlib.Numerals.{add-one}
 use native.Mathlib.Omega.{arith}
 use lib.Dec.{not_T, eqb}
-use lib.ListN.{length, get_or, set, replicate, length-set, length-replicate}
+use lib.ListN.{length, get_or, set, replicate, length-replicate}
 use borrow.Author.Tests.{eq-eqb, ne_eqb}
 use Rattle.model.specs.Trace.{Trace, tasks, locks, variables, task, object, is_write}
 use Rattle.model.specs.Tasks.{is_start, is_join, target}
@@ -29,38 +29,39 @@ use Rattle.recording.specs.Asked.{Done, Passes, Plain, Asking}
 
 -- ---- one event
 
--- An event of task t, whose latest join is `over`, that no question before that refuses.
-module _ (σ : Trace) (e t over : ℕ) (past : Past) (task_is : (t < tasks) × (t ≡ task σ e))
-    (over_is : is_over σ e ≡ not (eqb over 0)) (z : Passes σ e past) where
+-- One event more is the latest of its task.
+pub latest-next : (σ : Trace) {f t : ℕ} {latest : List ℕ} → (t < tasks) × (t ≡ task σ f)
+    → length latest ≡ tasks → LatestEvents (λ g. true) (task σ) f latest
+    → LatestEvents (λ g. true) (task σ) (f + 1) (set latest t f)
+latest-next σ {f} {t} {latest} (small, q) long z =
+    rw (add-one f, q) (latest-set (λ g. true) (task σ) f latest z tt (omega arith))
+
+-- Event e of task t, to which the check has come and that no question before the last refuses.
+module _ {σ : Trace} {e t : ℕ} {before past : Past} {latest : List ℕ} (y : Asking σ e before latest)
+    (task_is : (t < tasks) × (t ≡ task σ e)) (z : Passes σ e past) where
+  over_is : is_over σ e ≡ not (eqb (get_or before.joins t 0) 0)
+  over_is =
+      rw task_is.1 (latest_over σ e before.joins y.done.joined (omega (arith, task_is, y.done.joins_long)))
+
   -- An event of a task that is over.
-  pub answer_over : over ≢ 0 → ◌≡◌ {A = ℕ} 16 (fault σ e)
-  answer_over d = sym (z.0 ∙ rw (over_is, ne_eqb over 0 d))
+  pub answer_over : get_or before.joins t 0 ≢ 0 → ◌≡◌ {A = ℕ} 16 (fault σ e)
+  answer_over d = sym (z.0 ∙ rw (over_is, ne_eqb (get_or before.joins t 0) 0 d))
 
   -- An event without a fault is the latest of its task.
-  pub answer_passed : {before : Past} {latest : List ℕ} → over ≡ 0 → Asking σ e before latest
+  pub answer_passed : length latest ≡ tasks → get_or before.joins t 0 ≡ 0
       → (◌≡◌ {A = ℕ} 0 (fault σ e)) × Asking σ (e + 1) past (set latest t e)
-  answer_passed {latest} n y = (sym none, next)
+  answer_passed long n = (sym none, next)
     where
       none : fault σ e ≡ 0
-      none = z.0 ∙ rw (over_is, eq-eqb over 0 n)
+      none = z.0 ∙ rw (over_is, eq-eqb (get_or before.joins t 0) 0 n)
 
       next : Asking σ (e + 1) past (set latest t e)
       next = record {
         faultless = λ f a b. ⊎_elim (λ (s : f ≡ e). rw s none) (λ d. y.faultless f a (omega arith))
             (equal? f e);
         done = z.1;
-        latest_long = length-set latest t e ∙ y.latest_long;
-        events = rw (add-one e, task_is.1)
-            (latest-set (λ f. true) (task σ) e latest y.events tt
-            (omega (arith, task_is, y.latest_long)));
+        events = latest-next σ task_is long y.events;
       }
-
--- The latest join of an event's task, by the table.
-pub over-at : {σ : Trace} {e t : ℕ} {past : Past} {latest : List ℕ}
-    → Asking σ e past latest → (t < tasks) × (t ≡ task σ e)
-    → is_over σ e ≡ not (eqb (get_or past.joins t 0) 0)
-over-at {σ} {e} {t} {past} z (small, q) =
-    rw q (latest_over σ e past.joins z.done.joined (omega (arith, z.done.joins_long)))
 
 -- ---- before the first start or join
 
@@ -80,15 +81,6 @@ done-start σ = record {
   started = latest-start (is_start σ) (target σ) tasks;
   joins_long = length-replicate {A = ℕ} tasks 0;
   joined = latest-start (is_join σ) (target σ) tasks;
-}
-
--- The check begins without a start or a join.
-pub plain-start : {σ : Trace} {past : Past}
-    → Done σ 1 past → Plain σ 1 past
-plain-start z = record {
-  faultless = λ f a b. absurd (omega arith);
-  unjoined = λ f a b. absurd (omega arith);
-  done = z;
 }
 
 module _ {σ : Trace} {e : ℕ} {past : Past}
@@ -114,31 +106,6 @@ module _ {σ : Trace} {e : ℕ} {past : Past}
       join : is_join σ e ≡ false
       join = is_false (is_join σ e) (not_T (is_join σ e) (λ j.
           rw n at (or_r (is_start σ e) (is_join σ e) j)))
-
-  -- At an event that is asked no further the tables may be others of the same.
-  pub plain-again : {same : Past} → Done σ e same → Plain σ e same
-  plain-again done = record {
-    faultless = z.faultless;
-    unjoined = z.unjoined;
-    done = done;
-  }
-
-  -- With the latest events it goes on with both.
-  pub plain-asking : {latest : List ℕ} → length latest ≡ tasks → LatestEvents (λ f. true) (task σ) e latest
-      → Asking σ e past latest
-  plain-asking long events = record {
-    faultless = z.faultless;
-    done = z.done;
-    latest_long = long;
-    events = events;
-  }
-
--- One event more is the latest of its task.
-pub latest-next : (σ : Trace) {f t : ℕ} {latest : List ℕ} → (t < tasks) × (t ≡ task σ f)
-    → length latest ≡ tasks → LatestEvents (λ g. true) (task σ) f latest
-    → LatestEvents (λ g. true) (task σ) (f + 1) (set latest t f)
-latest-next σ {f} {t} {latest} (small, q) long z =
-    rw (add-one f, q) (latest-set (λ g. true) (task σ) f latest z tt (omega arith))
 
 -- ---- all events
 

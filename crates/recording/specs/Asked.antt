@@ -1,5 +1,5 @@
--- The state of the check right before event e: no earlier event has a fault, and what earlier events have done
--- is what the questions about it ask for.
+-- The state of the check right before event e: no earlier event has a fault, and what earlier events have
+-- done is what the questions about it ask for.
 use Rattle.std.specs.Prelude.{ℕ, ◌+◌, ◌*◌, ◌≤◌, ◌<◌, ◌≡◌, true, false, ◌||◌, cond, List, length}
 use Rattle.std.specs.Prelude.{Option, Some, None, Result, Ok, Err}
 use Rattle.model.specs.declared.Question.{Question}
@@ -72,5 +72,4 @@ PlainTo b (Err r) past = outcome_of {A = Option ℕ} (Err r) ≡ check_events (d
 pub record Asking (σ : Trace) (e : ℕ) (past : Past) (latest : List ℕ) : Type 0 where
   pub faultless : (f : ℕ) → 1 ≤ f → f < e → fault σ f ≡ 0
   pub done : Done σ e past
-  pub latest_long : length latest ≡ tasks
   pub events : LatestEvents (λ f. true) (task σ) e latest

@@ -9,7 +9,7 @@ ghost use Rattle.model.specs.Refused.{refusal};
 ghost use Rattle.model.specs.Answers.{fault_of, outcome_of};
 ghost use Rattle.model.specs.Lists.{has_bit};
 ghost use Rattle.model.specs.Bytes.{numbers, two_bytes};
-ghost use Rattle.model.specs.Trace.{tasks, locks, variables, at, task, object, enters, leaves};
+ghost use Rattle.model.specs.Trace.{tasks, locks, sync_objects, variables, at, task, object, enters, leaves};
 ghost use Rattle.model.specs.Tasks.{target, is_start, is_join};
 ghost use Rattle.model.specs.Recording.{decode_all, event_count};
 ghost use Rattle.model.specs.Relations.{holds};
@@ -21,8 +21,8 @@ ghost use Rattle.recording.specs.Asked.{code, Done, Answered, Plainly, Plain, Pl
 
 use model::{Question, Refusal};
 
-// What an event's record says that it does: to a variable, or to a lock. An acquire starts, and a release joins,
-// where its object stands for a task.
+// What an event's record says that it does: to a variable, or to a lock. An acquire starts, and a release
+// joins, where its object stands for a task.
 #[derive(Clone, Copy, Debug, PartialEq, Eq, Hash)]
 pub enum Op {
     Read = 0,
@@ -38,8 +38,8 @@ struct Locks {
     depths: [u16; 64],
 }
 
-// What earlier events have done: to the locks, of each variable the latest write, and of each task its start and
-// the latest join.
+// What earlier events have done: to the locks, of each variable the latest write, and of each task its start
+// and the latest join.
 #[derive(Drop)]
 struct Past {
     locks: Locks,
@@ -48,8 +48,8 @@ struct Past {
     joins: [u16; 16],
 }
 
-// What an event that no question refuses is found to be: it is asked no more, or its record, an acquire's or a
-// release's, names no lock.
+// What an event that no question refuses is found to be: it is asked no more, or its record, an acquire's or
+// a release's, names no lock.
 #[derive(Clone, Copy)]
 enum Asked {
     Passed,
@@ -61,7 +61,7 @@ pub fn number(bytes: &[u8], i: usize) -> u16
     requires { 2 * i + 2 ≤ length bytes.now }
     ensures { result ≡ get_or (numbers bytes.now) i 0 }
 {
-    ((bytes[2 * i] as u16) << 8) | (bytes[2 * i + 1] as u16)
+    u16::from_be_bytes([bytes[2 * i], bytes[2 * i + 1]])
 }
 
 // Writes the number n in two bytes at a position, the high byte first.
@@ -69,8 +69,7 @@ pub fn put_number(bytes: &mut [u8], at: usize, n: u16)
     requires { at + 2 ≤ length bytes.old }
     ensures { bytes.new ≡ sets bytes.old at (two_bytes n) }
 {
-    bytes[at] = (n / 256) as u8;
-    bytes[at + 1] = (n % 256) as u8;
+    bytes[at..at + 2].copy_from_slice(&n.to_be_bytes());
 }
 
 // The operation of event e: the top 2 bits of its record.
@@ -100,7 +99,24 @@ pub fn object(records: &[u8], e: usize) -> u16
     ensures { (result < variables) × (result ≡ object (decode_all records.now) e) }
 {
     let at = 2 * (e - 1);
-    (((records[at] & 3) as u16) << 8) | (records[at + 1] as u16)
+    u16::from_be_bytes([records[at] & 3, records[at + 1]])
+}
+
+// The lock that event e names.
+fn lock(records: &[u8], e: usize) -> usize
+    requires { (1 ≤ e) × (2 * e ≤ length records.now) × (object (decode_all records.now) e < locks) }
+    ensures { (result < locks) × (result ≡ object (decode_all records.now) e) }
+{
+    object(records, e) as usize
+}
+
+// The task that event e starts or joins: what its object stands for.
+fn target(records: &[u8], e: usize) -> usize
+    requires { (1 ≤ e) × (2 * e ≤ length records.now) × (locks ≤ object (decode_all records.now) e)
+        × (object (decode_all records.now) e < sync_objects) }
+    ensures { (result < tasks) × (result ≡ target (decode_all records.now) e) }
+{
+    object(records, e) as usize - 64
 }
 
 // Lock l is in the mask.
@@ -112,18 +128,18 @@ pub fn in_mask(mask: u64, l: u64) -> bool
 }
 
 impl Locks {
-    // Puts question 5 to acquire e of lock l by task t: the task is then the holder, one deeper. A depth is at
-    // most e, so it fits. The records only say what e is.
-    fn enter(&mut self, records: &[u8], e: usize, t: u8, l: usize) -> Result<(), Question>
-        requires { (1 ≤ e) × (e < table_length) × T (enters (decode_all records.now) e)
-            × (t < tasks) × (t ≡ task (decode_all records.now) e)
-            × (l < locks) × (l ≡ object (decode_all records.now) e)
+    // Puts question 5 to acquire e: its task is then the holder of its lock, one deeper. A depth is at most
+    // e, so it fits.
+    fn enter(&mut self, records: &[u8], e: usize) -> Result<(), Question>
+        requires { (1 ≤ e) × (2 * e ≤ length records.now) × (e < table_length)
+            × T (enters (decode_all records.now) e)
             × Holders (decode_all records.now) e self.old.holders self.old.depths }
         ensures fault { fault_of result ≡ cond (is_free (decode_all records.now) e) 0 5 }
         ensures held { OnOk result
             (Holders (decode_all records.now) (e + 1) self.new.holders self.new.depths) }
     {
-        let own = t + 1;
+        let l = lock(records, e);
+        let own = task(records, e) + 1;
         if self.holders[l] == 0 {
             self.holders[l] = own;
             return Ok(());
@@ -135,19 +151,18 @@ impl Locks {
         Ok(())
     }
 
-    // Puts question 6 to release e of lock l by task t: the task is then one less deep, and at depth 0 the holder
-    // no more.
-    fn leave(&mut self, records: &[u8], e: usize, t: u8, l: usize) -> Result<(), Question>
-        requires { T (leaves (decode_all records.now) e)
-            × (t < tasks) × (t ≡ task (decode_all records.now) e)
-            × (l < locks) × (l ≡ object (decode_all records.now) e)
+    // Puts question 6 to release e: its task is then one less deep in its lock, and at depth 0 the holder no
+    // more.
+    fn leave(&mut self, records: &[u8], e: usize) -> Result<(), Question>
+        requires { (1 ≤ e) × (2 * e ≤ length records.now) × T (leaves (decode_all records.now) e)
             × Holders (decode_all records.now) e self.old.holders self.old.depths }
         ensures fault { fault_of result ≡ cond (holds (decode_all records.now) e
             (task (decode_all records.now) e) (object (decode_all records.now) e)) 0 6 }
         ensures held { OnOk result
             (Holders (decode_all records.now) (e + 1) self.new.holders self.new.depths) }
     {
-        if self.holders[l] != t + 1 {
+        let l = lock(records, e);
+        if self.holders[l] != task(records, e) + 1 {
             return Err(Question::LockHeld);
         }
         if self.depths[l] == 1 {
@@ -159,58 +174,9 @@ impl Locks {
     }
 }
 
-// Puts question 15 to start e of task u by task t, with the latest event, the start and the latest join of
-// each task: e is then the start of task u.
-fn start(
-    records: &[u8],
-    e: usize,
-    t: u8,
-    u: usize,
-    latest: &[u16],
-    starts: &mut [u16],
-    joins: &[u16],
-) -> Result<(), Question>
-    requires { (e < table_length) × T (is_start (decode_all records.now) e)
-        × (t ≡ task (decode_all records.now) e) × (u < tasks) × (u ≡ target (decode_all records.now) e)
-        × (length latest.now ≡ tasks)
-        × LatestEvents (λ f. true) (task (decode_all records.now)) e latest.now
-        × (length starts.old ≡ tasks)
-        × LatestEvents (is_start (decode_all records.now)) (target (decode_all records.now)) e starts.old
-        × (length joins.now ≡ tasks)
-        × LatestEvents (is_join (decode_all records.now)) (target (decode_all records.now)) e joins.now }
-    ensures fault { fault_of result ≡ cond (is_new (decode_all records.now) e) 0 15 }
-    ensures started { OnOk result (LatestEvents (is_start (decode_all records.now))
-        (target (decode_all records.now)) (e + 1) starts.new) }
-{
-    if u == t as usize || starts[u] != 0 || joins[u] != 0 || latest[u] != 0 {
-        return Err(Question::TaskNew);
-    }
-    starts[u] = e as u16;
-    Ok(())
-}
-
-// Puts the first part of question 16 to join e of task u by task t, whether it is its own: e is then the latest
-// join of task u.
-fn join(records: &[u8], e: usize, t: u8, u: usize, joins: &mut [u16]) -> Result<(), Question>
-    requires { (e < table_length) × T (is_join (decode_all records.now) e)
-        × (t ≡ task (decode_all records.now) e) × (u < tasks) × (u ≡ target (decode_all records.now) e)
-        × (length joins.old ≡ tasks)
-        × LatestEvents (is_join (decode_all records.now)) (target (decode_all records.now)) e joins.old }
-    ensures fault { fault_of result ≡ cond (eqb (target (decode_all records.now) e)
-        (task (decode_all records.now) e)) 16 0 }
-    ensures joined { OnOk result (LatestEvents (is_join (decode_all records.now))
-        (target (decode_all records.now)) (e + 1) joins.new) }
-{
-    if u == t as usize {
-        return Err(Question::TaskOpen);
-    }
-    joins[u] = e as u16;
-    Ok(())
-}
-
 impl Past {
-    // Puts questions 4 to 7 to event e where it is an access or names a lock; what it does is then done as well.
-    // Otherwise it is found lockless, and nothing is done.
+    // Puts questions 4 to 7 to event e where it is an access or names a lock; what it does is then done as
+    // well. Otherwise it is found lockless, and nothing is done.
     fn ask_plain(&mut self, records: &[u8], e: usize) -> Result<Asked, Question>
         requires { (1 ≤ e) × (2 * e ≤ length records.now) × (e < table_length)
             × Done (decode_all records.now) e self.old }
@@ -228,32 +194,69 @@ impl Past {
                 if 64 <= at {
                     return Ok(Asked::Lockless);
                 }
-                self.locks.enter(records, e, task(records, e), at)?;
+                self.locks.enter(records, e)?;
             }
             Op::Release => {
                 if 64 <= at {
                     return Ok(Asked::Lockless);
                 }
-                self.locks.leave(records, e, task(records, e), at)?;
+                self.locks.leave(records, e)?;
             }
         }
         Ok(Asked::Passed)
     }
 
-    // Puts questions 4 to 7 and 15, and of 16 whether a task joins itself, to event e of task t: what it does is
-    // then done as well. The latest event of each task is asked for by a start alone.
-    fn ask_object(
-        &mut self,
-        records: &[u8],
-        e: usize,
-        t: u8,
-        latest: &[u16],
-    ) -> Result<(), Question>
+    // The task that start e starts is new: not the start's own, and without a start, a join or an event.
+    fn is_new(&self, records: &[u8], e: usize, latest: &[u16; 16]) -> bool
+        requires { (1 ≤ e) × (2 * e ≤ length records.now)
+            × T (is_start (decode_all records.now) e) × (object (decode_all records.now) e < sync_objects)
+            × Done (decode_all records.now) e self.now
+            × LatestEvents (λ f. true) (task (decode_all records.now)) e latest.now }
+        ensures { result ≡ is_new (decode_all records.now) e }
+    {
+        let t = task(records, e) as usize;
+        let u = target(records, e);
+        (u != t) & (self.starts[u] == 0) & (self.joins[u] == 0) & (latest[u] == 0)
+    }
+
+    // Puts question 15 to start e, with the latest event of each task: e is then the start of its task.
+    fn start(&mut self, records: &[u8], e: usize, latest: &[u16; 16]) -> Result<(), Question>
         requires { (1 ≤ e) × (2 * e ≤ length records.now) × (e < table_length)
-            × (t < tasks) × (t ≡ task (decode_all records.now) e)
+            × T (is_start (decode_all records.now) e) × (object (decode_all records.now) e < sync_objects)
             × Done (decode_all records.now) e self.old
-            × (length latest.now ≡ tasks) × (T (is_start (decode_all records.now) e)
-            → LatestEvents (λ f. true) (task (decode_all records.now)) e latest.now) }
+            × LatestEvents (λ f. true) (task (decode_all records.now)) e latest.now }
+        ensures { Answered (decode_all records.now) e result self.new }
+    {
+        if !self.is_new(records, e, latest) {
+            return Err(Question::TaskNew);
+        }
+        self.starts[target(records, e)] = e as u16;
+        Ok(())
+    }
+
+    // Puts the first part of question 16 to join e, whether it joins its own task: e is then the latest join
+    // of the task that it joins.
+    fn join(&mut self, records: &[u8], e: usize) -> Result<(), Question>
+        requires { (1 ≤ e) × (2 * e ≤ length records.now) × (e < table_length)
+            × T (is_join (decode_all records.now) e) × (object (decode_all records.now) e < sync_objects)
+            × Done (decode_all records.now) e self.old }
+        ensures { Answered (decode_all records.now) e result self.new }
+    {
+        let t = task(records, e) as usize;
+        let u = target(records, e);
+        if u == t {
+            return Err(Question::TaskOpen);
+        }
+        self.joins[u] = e as u16;
+        Ok(())
+    }
+
+    // Puts questions 4 to 7 and 15, and of 16 whether a task joins itself, to event e: what it does is then
+    // done as well.
+    fn ask_object(&mut self, records: &[u8], e: usize, latest: &[u16; 16]) -> Result<(), Question>
+        requires { (1 ≤ e) × (2 * e ≤ length records.now) × (e < table_length)
+            × Done (decode_all records.now) e self.old
+            × LatestEvents (λ f. true) (task (decode_all records.now)) e latest.now }
         ensures { Answered (decode_all records.now) e result self.new }
     {
         match self.ask_plain(records, e)? {
@@ -261,44 +264,35 @@ impl Past {
             Asked::Lockless => {}
         }
         let op = operation(records, e);
-        let at = object(records, e) as usize;
-        if 80 <= at {
+        if 80 <= object(records, e) {
             return Err(Question::Object);
         }
         match op {
-            Op::Acquire => start(
-                records,
-                e,
-                t,
-                at - 64,
-                latest,
-                &mut self.starts,
-                &self.joins,
-            ),
-            _ => join(records, e, t, at - 64, &mut self.joins),
+            Op::Acquire => self.start(records, e, latest),
+            _ => self.join(records, e),
         }
     }
 
-    // Puts questions 4 to 7, 15 and 16 to event e: what it does is then done as well. That its task is over is
-    // asked last.
-    fn ask(&mut self, records: &[u8], e: usize, latest: &mut [u16]) -> Result<(), Question>
+    // Puts questions 4 to 7, 15 and 16 to event e: what it does is then done as well. That its task is over
+    // is asked last.
+    fn ask(&mut self, records: &[u8], e: usize, latest: &mut [u16; 16]) -> Result<(), Question>
         requires { (1 ≤ e) × (2 * e ≤ length records.now) × (e < table_length)
             × Asking (decode_all records.now) e self.old latest.old }
         ensures fault { fault_of result ≡ fault (decode_all records.now) e }
         ensures next { OnOk result (Asking (decode_all records.now) (e + 1) self.new latest.new) }
     {
-        let t = task(records, e);
-        let over = self.joins[t as usize];
-        self.ask_object(records, e, t, latest)?;
+        let t = task(records, e) as usize;
+        let over = self.joins[t];
+        self.ask_object(records, e, latest)?;
         if over != 0 {
             return Err(Question::TaskOpen);
         }
-        latest[t as usize] = e as u16;
+        latest[t] = e as u16;
         Ok(())
     }
 
-    // Puts the questions to the events before the first start or join, of which no task is over: the first event
-    // that is a start or a join or has no object, if any, before which this then stands.
+    // Puts the questions to the events before the first start or join, of which no task is over: the first
+    // event that is a start or a join or has no object, if any, before which this then stands.
     fn check_plain(&mut self, records: &[u8]) -> Result<Option<usize>, Refusal>
         requires { (length records.now ≤ records_length) × Done (decode_all records.now) 1 self.old }
         ensures { PlainTo records.now result self.new }
@@ -313,8 +307,8 @@ impl Past {
         Ok(None)
     }
 
-    // Puts the questions to the events from event `from` on, which a start or a join may be among: the earliest
-    // event with a "no" decides.
+    // Puts the questions to the events from event `from` on, which a start or a join may be among: the
+    // earliest event with a "no" decides.
     fn check_forked(&mut self, records: &[u8], from: usize) -> Result<(), Refusal>
         requires { (length records.now ≤ records_length) × (1 ≤ from) × (2 * from ≤ length records.now)
             × Plain (decode_all records.now) from self.old }
@@ -378,7 +372,7 @@ pub fn event_count(recording: &[u8]) -> usize
     requires { 2 ≤ length recording.now }
     ensures { (result < table_length) × (result ≡ event_count recording.now) }
 {
-    (((recording[0] & 15) as usize) << 8) | (recording[1] as usize)
+    u16::from_be_bytes([recording[0] & 15, recording[1]]) as usize
 }
 
 // Checks a recording: questions 1 to 3 on its bytes, and 4 to 7, 15 and 16 on the part after its header.

@@ -7,7 +7,8 @@ use Rattle.laws.proofs.Questions.{check_short, check-format, check-length, check
 use Rattle.recording.proofs.check.Goals as goal
 
 pub returns-then-recording-lt2 : goal.returns-then-recording-lt2
-returns-then-recording-lt2 c = rw c.into.ensures (sym (check_short c.args.recording.now c.if-recording-lt2.true))
+returns-then-recording-lt2 c =
+    rw c.into.ensures (sym (check_short c.args.recording.now c.if-recording-lt2.true))
 
 pub returns-then-recording-ne1 : goal.returns-then-recording-ne1
 unfolding format

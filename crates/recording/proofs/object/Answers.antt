@@ -1,19 +1,15 @@
 -- `recording::object` meets its contract: the low 10 bits of a record are the object. Assumes nothing.
-use Prim.Native.Nat.{◌+◌, ◌*◌, ◌-◌, ◌%◌, ◌<◌}
-use mathlib.Core.Path.{◌≡◌, ◌∙◌}
+use Prim.Native.Nat.{◌+◌, ◌*◌, ◌-◌}
 use native.Mathlib.Omega.{arith}
-use lib.Bits.{bit_and, bit_or}
+use lib.Bits.{and_mask}
 use lib.ListN.{get_or}
-use Rattle.laws.proofs.Trace.{low_unpacked, record-object}
+use Rattle.laws.proofs.Trace.{record-object}
 use Rattle.recording.proofs.object.Goals as goal
 
 pub returns : goal.returns
 returns c =
     let a = c.args in
-    let p = c.requires in
     let hi = get_or a.records.now (2 * (a.e - 1)) 0 in
-    let lo = get_or a.records.now (2 * (a.e - 1) + 1) 0 in
-    let small : lo < 256 = (c.type_inv.records (2 * (a.e - 1) + 1)).fits in
-    let is : bit_or (bit_and hi 3 * 256 % 65536) lo ≡ hi % 4 * 256 + lo = low_unpacked 2 16 hi lo small
-    (omega arith) in
-    (omega arith, is ∙ record-object a.records.now a.e p.0 p.1)
+    let is = rw (and_mask hi 2) at c.from_be_bytes.ensures in
+    let small = c.type_inv.records (2 * (a.e - 1) + 1) in
+    omega (arith, is, small, record-object a.records.now a.e c.requires.0 c.requires.1)

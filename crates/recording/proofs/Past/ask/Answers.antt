@@ -1,15 +1,14 @@
 -- `recording::Past::ask` meets its contract: what the event does is asked first, and then whether its task is
 -- over. Assumes nothing.
-use Rattle.recording.proofs.Walk.{over-at, answer_over, answer_passed}
+use Rattle.recording.proofs.Walk.{answer_over, answer_passed}
 use Rattle.recording.proofs.Past.ask.Goals as goal
 
 pub returns-then-over-ne0-clause-fault : goal.returns-then-over-ne0-clause-fault
 returns-then-over-ne0-clause-fault c =
-    answer_over _ _ _ _ _ c.task-t.ensures (over-at c.requires.3 c.task-t.ensures) c.in_ok-ask_object.ensures
-    c.if-over-ne0.true
+    answer_over c.requires.3 c.task-t.ensures c.in_ok-ask_object.ensures c.if-over-ne0.true
 
 pub returns : goal.returns
 returns c =
-    let passed = answer_passed _ _ _ _ _ c.task-t.ensures (over-at c.requires.3 c.task-t.ensures)
-    c.in_ok-ask_object.ensures c.if-over-ne0.false c.requires.3 in
+    let passed = answer_passed c.requires.3 c.task-t.ensures c.in_ok-ask_object.ensures c.told-latest
+    c.if-over-ne0.false in
     record { fault = passed.0; next = passed.1 }

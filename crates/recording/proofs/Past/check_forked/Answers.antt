@@ -1,5 +1,5 @@
--- `recording::Past::check_forked` meets its contract: before each event its state is that of the check, and no
--- earlier event has a fault. Assumes nothing.
+-- `recording::Past::check_forked` meets its contract: before each event its state is that of the check, and
+-- no earlier event has a fault. Assumes nothing.
 use native.Mathlib.Omega.{arith}
 use Rattle.model.specs.Refused.{number}
 use Rattle.laws.proofs.Numbers.{number_positive}
@@ -10,7 +10,8 @@ pub returns-in-Err : goal.returns-in-Err
 returns-in-Err c =
     let k = c.loop-e in
     rw c.caused.ensures
-    (asked_refused c.args.records.now k.e k.invariant.faultless (number c.in-Err.question) (omega (arith, k.auto.e, c.requires))
+    (asked_refused c.args.records.now k.e k.invariant.faultless (number c.in-Err.question)
+    (omega (arith, k.auto.e, c.requires))
     (omega (arith, c.loop-e-test.true)) c.in-Err.ensures.fault
     (λ n. absurd (omega (arith, n, number_positive c.in-Err.question))))
 
