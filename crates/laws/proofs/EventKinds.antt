@@ -5,7 +5,7 @@ use mathlib.Core.Logic.{⊎_elim, ◌≢◌}
 use mathlib.Core.Bool.{Bool, true, false, cond, not, ◌&&◌, ◌||◌, or-true}
 use native.Mathlib.Omega.{arith}
 use lib.Dec.{T, not_T, eqb}
-use borrow.Author.Tests.{ne_eqb, lt-ltb}
+use borrow.Author.Tests.{ne_eqb, lt-ltb, eqb-true}
 use Rattle.model.specs.Trace.{Trace, locks, at, object, is_read, is_write, has_acquire_op, has_release_op}
 use Rattle.model.specs.Trace.{enters, leaves, own_depth, is_acquire, is_release, is_inner}
 use Rattle.model.specs.Tasks.{is_start, is_join}
@@ -124,6 +124,12 @@ module _ (σ : Trace) (e : ℕ) where
   -- and neither is an outer release.
   pub release_uncounted : T (is_release σ e) → is_uncounted σ e ≡ false
   release_uncounted a = decided (is_uncounted σ e) (λ y. absurd (rw (uncounted_release y) at a)) (λ n. n)
+
+  -- An outer release is no outer acquire.
+  pub release_acquire : T (is_release σ e) → is_acquire σ e ≡ false
+  release_acquire r =
+      let three = eqb-true (kind σ e) 3 (sym (is_release-kind σ e refl) ∙ is_true (is_release σ e) r) in
+      is_acquire-kind σ e refl ∙ ne_eqb (kind σ e) 2 (omega arith)
 
   -- An inner acquire or release is one.
   pub inner_uncounted : T (is_inner σ e) → is_uncounted σ e ≡ true
