@@ -12,7 +12,7 @@ use borrow.Author.Tests.{eq-eqb, ne_eqb}
 use Rattle.model.specs.Lists.{last_before}
 use Rattle.model.specs.Trace.{Trace, task, object, is_read, is_write, same_object}
 use Rattle.model.specs.Tasks.{is_start, is_join, target, starts, joins}
-use Rattle.model.specs.Relations.{latest_of, start_of, join_of, last_of, predecessor, joined, writer}
+use Rattle.model.specs.Relations.{latest_of, start_of, join_of, last_of, writer}
 use Rattle.model.specs.WellFormed.{is_new, is_over}
 use Rattle.laws.specs.Walked.{LatestEvents}
 use Rattle.laws.proofs.Tests.{decided, equal?, is_true}
@@ -90,21 +90,6 @@ module _ (σ : Trace) (e : ℕ) (table starting : List ℕ) (z : LatestEvents (�
       → cond (eqb (get_or table t 0) 0) (get_or starting t 0) (get_or table t 0) ≡ last_of σ e t
   unfolding last_of
   latest_last t h k = rw (latest_of_lem σ e table z t h, latest-start_of σ e starting s t k)
-
-  -- That of the event's task is its predecessor.
-  pub latest-predecessor : task σ e < length table → task σ e < length starting
-      → cond (eqb (get_or table (task σ e) 0) 0) (get_or starting (task σ e) 0) (get_or table (task σ e) 0)
-      ≡ predecessor σ e
-  unfolding predecessor
-  latest-predecessor h k = latest_last (task σ e) h k
-
-  -- That of a joined task is what the join waits for.
-  pub latest-joined : is_join σ e ≡ true → target σ e < length table → target σ e < length starting
-      → cond (eqb (get_or table (target σ e) 0) 0) (get_or starting (target σ e) 0)
-      (get_or table (target σ e) 0)
-      ≡ joined σ e
-  unfolding joined
-  latest-joined j h k = rw j (latest_last (target σ e) h k)
 
   module _ (joining : List ℕ) (j : LatestEvents (is_join σ) (target σ) e joining) where
     -- A start's task is new where no table has it, and it is not the start's own.

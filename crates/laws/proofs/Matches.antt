@@ -1,5 +1,5 @@
--- How one event of a well-formed trace changes the matches as far as the events show them, which are defined in
--- specs/Walked. Assumes nothing.
+-- How one event of a well-formed trace changes the matches as far as the events show them; these are defined
+-- in specs/Walked. Assumes nothing.
 use Prim.Native.Nat.{ℕ, suc, ◌+◌, ◌-◌, ◌≤◌, ◌<◌}
 use mathlib.Core.Path.{◌≡◌, sym, ap, ◌∙◌}
 use mathlib.Core.Logic.{◌≢◌}
@@ -55,7 +55,8 @@ module _ (σ : Trace) where
           (λ z. rw z (sym (eqb-true (first_from (suc f) (e - suc f) (releases σ f)) 0 z))) (λ z. rw z)))
 
   -- An event that is no outer release leaves what is shown of an earlier one,
-  pub marked_keep : (e f : ℕ) → f < e → is_release σ e ≡ false → marked_before σ (suc e) f ≡ marked_before σ e f
+  pub marked_keep : (e f : ℕ) → f < e → is_release σ e ≡ false
+      → marked_before σ (suc e) f ≡ marked_before σ e f
   unfolding marked_before
   marked_keep e f h n =
       ap (λ (m : ℕ). cond (is_uncounted σ f) f m) (matching_keep e f h (λ a p. absurd (absent p)))

@@ -1,4 +1,5 @@
--- The order of one event off what is kept of the earlier ones, and how the event changes that. Assumes nothing.
+-- The order of one event off what is kept of the earlier ones, and how the event changes that.
+-- Assumes nothing.
 use Prim.Native.Nat.{ℕ, ◌+◌, ◌-◌, ◌≤◌, ◌<◌}
 use mathlib.Core.Path.{◌≡◌, sym, ◌∙◌}
 use mathlib.Core.Logic.{◌≢◌}

@@ -1,5 +1,5 @@
-// The order of events: an event's predecessor and what it awaits, off what is kept of the earlier ones, and what
-// is kept once the event is noted.
+// The order of events: an event's predecessor and what it awaits, off what is kept of the earlier ones, and
+// what is kept once the event is noted.
 #![tactic(auto)]
 
 ghost use Rattle.std.specs.Prelude.{ℕ, ◌+◌, ◌*◌, ◌<◌, ◌≤◌, ◌≡◌, length};
@@ -53,8 +53,8 @@ impl Latest {
         self.last_of(recording::task(records, e) as usize)
     }
 
-    // What the release record of event e waits for: a join for the last event of the joined task, or its start,
-    // and a release of a lock for nothing.
+    // What the release record of event e waits for: a join for the last event of the joined task, or its
+    // start, and a release of a lock for nothing.
     fn joined_of(&self, records: &[u8], e: usize) -> u16
         requires { (1 ≤ e) × (2 * e ≤ length records.now) × ((at (decode_all records.now) e).op ≡ 3)
             × ((check_events (decode_all records.now)).refusal ≡ 0)

@@ -106,8 +106,10 @@ pub noted_end : (b : List ℕ) (e : ℕ) {walk : Walk} → Noted (decode_all b) 
 noted_end b e {walk} z h k = record {
   held_at = λ f i j. (z.row_at f i (omega (arith, last))).held_is;
   predecessor_at = λ f i j. (z.row_at f i (omega (arith, last))).predecessor_is;
-  start_at = λ t i. rw last at
-      (latest-start_of (decode_all b) e walk.latest.starts z.latest.start t (omega (arith, z.latest.starts_long)));
+  start_at = λ t i.
+      let start = z.latest.start in
+      let long = z.latest.starts_long in
+      rw last at (latest-start_of (decode_all b) e walk.latest.starts start t (omega (arith, long)));
   awaited_at = λ f i j. (z.row_at f i (omega (arith, last))).awaited_is;
   matching_at = λ f i j. (rw last at (z.row_at f i (omega (arith, last))).matching_is)
       ∙ marked_end (decode_all b) f;

@@ -1,5 +1,5 @@
-// The relations of a recording's events: an accepted recording with tables of them, filled in one pass over its
-// records, and the call that gives those of one event.
+// The relations of a recording's events: an accepted recording with tables of them, filled in one pass over
+// its records, and the call that gives those of one event.
 #![tactic(auto)]
 
 ghost use Rattle.std.specs.Prelude.{ℕ, ◌+◌, ◌*◌, ◌<◌, ◌≤◌, ◌≡◌, cond, eqb, length, get_or, Ok};
@@ -48,8 +48,8 @@ struct Tables {
     starts: [u16; 16],
 }
 
-// An event's held locks, its predecessor, what it awaits (a read its writer, a join what it waits for), and its
-// match, or for an inner event, a start or a join its own number.
+// What is noted of an event: its held locks, its predecessor, what it awaits (a read its writer, a join what
+// it waits for), and its match, or for an inner event, a start or a join its own number.
 #[derive(Clone, Copy)]
 struct Row {
     held: u64,

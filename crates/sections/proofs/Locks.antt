@@ -109,7 +109,8 @@ module _ {σ : Trace} {e : ℕ} {k : K.Kind} {sections : OpenSections} (u : OfKi
 
     unacquired : kind_code k ≢ 2 → LatestEvents (is_acquire σ) (object σ) (e + 1) sections.acquires
     unacquired d =
-        rw (add-one e) (latest_keep (is_acquire σ) (object σ) e sections.acquires u.before.acquire (no_acquire d))
+        rw (add-one e)
+        (latest_keep (is_acquire σ) (object σ) e sections.acquires u.before.acquire (no_acquire d))
 
     unlocked : kind_code k ≢ 2 → kind_code k ≢ 3 → Locksets σ (e + 1) sections.locksets
     unlocked c d =

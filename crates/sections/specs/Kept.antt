@@ -4,7 +4,8 @@ use Rattle.model.specs.Trace.{Trace, locks, object, is_acquire}
 use Rattle.laws.specs.Walked.{LatestEvents, KeptDepths, Locksets}
 use Rattle.sections.specs.declared.OpenSections.{OpenSections}
 
--- The depth of each lock, the locks of each task and the latest outer acquire of each lock are those before e.
+-- The depth of each lock, the locks of each task and the latest outer acquire of each lock are those before
+-- event e.
 pub record OpenBefore (σ : Trace) (e : ℕ) (sections : OpenSections) : Type 0 where
   pub depth : KeptDepths σ e sections.depths
   pub lockset : Locksets σ e sections.locksets

@@ -1,5 +1,5 @@
-// The critical sections of locks: an event's held locks, whether the record of an acquire or release is an outer
-// one, and its match, off what is kept of the earlier events, and what is kept once the event is noted.
+// The critical sections of locks: an event's held locks, whether the record of an acquire or release is an
+// outer one, and its match, off what is kept of the earlier events; and what is kept once the event is noted.
 #![tactic(auto)]
 
 ghost use Rattle.std.specs.Prelude.{◌+◌, ◌*◌, ◌<◌, ◌≤◌, ◌≡◌, cond, eqb, length};
@@ -15,7 +15,8 @@ ghost use Rattle.sections.specs.Kept.{OpenBefore};
 
 use recording::Op;
 
-// What an event counts as: its operation, unless it is the record of an acquire or a release that is no outer one.
+// What an event counts as: its operation, unless it is the record of an acquire or a release that is no outer
+// one.
 #[derive(Clone, Copy, Debug, PartialEq, Eq, Hash)]
 pub enum Kind {
     Read,
@@ -25,8 +26,8 @@ pub enum Kind {
     Uncounted,
 }
 
-// What is kept of critical sections before an event: the depth of each lock, or 1 where it has none, the locks
-// that each task holds, as a mask, and the latest outer acquire of each lock.
+// What is kept of critical sections before an event: the depth of each lock, or 1 where it has none, the
+// locks that each task holds, as a mask, and the latest outer acquire of each lock.
 #[derive(Drop)]
 pub struct OpenSections {
     pub depths: [u16; 64],
@@ -54,8 +55,8 @@ impl OpenSections {
         self.locksets[recording::task(records, e) as usize]
     }
 
-    // The kind of event e: a start, a join, an inner acquire, whose lock is among its held locks, and an inner
-    // release, whose lock is at a depth above 1, do not count.
+    // The kind of event e: a start, a join, an inner acquire, whose lock is among its held locks, and an
+    // inner release, whose lock is at a depth above 1, do not count.
     pub fn kind_of(&self, records: &[u8], e: usize) -> Kind
         requires { (1 ≤ e) × (2 * e ≤ length records.now)
             × ((check_events (decode_all records.now)).refusal ≡ 0)
@@ -123,8 +124,8 @@ impl OpenSections {
         }
     }
 
-    // Notes event e, which does not count: an inner acquire takes its lock one deeper, an inner release one up,
-    // and a start or a join leaves all as it is.
+    // Notes event e, which does not count: an inner acquire takes its lock one deeper, an inner release one
+    // up, and a start or a join leaves all as it is.
     fn note_depth(&mut self, records: &[u8], e: usize)
         requires { (1 ≤ e) × (2 * e ≤ length records.now) × (e < table_length)
             × ((check_events (decode_all records.now)).refusal ≡ 0)

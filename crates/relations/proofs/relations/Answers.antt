@@ -1,5 +1,5 @@
--- `relations::relations` meets its contract: the recording's questions, then 9, then the relations of the event.
--- Assumes nothing.
+-- `relations::relations` meets its contract: the recording's questions, then 9, then the relations of the
+-- event. Assumes nothing.
 use mathlib.Core.Path.{◌≡◌, sym, ap, ◌∙◌}
 use native.Mathlib.Omega.{arith}
 use mathlib.Core.Logic.{⊎_elim}

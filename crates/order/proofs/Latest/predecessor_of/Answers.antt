@@ -1,4 +1,5 @@
--- `order::Latest::predecessor_of` meets its contract: it is the last event of the event's task. Assumes nothing.
+-- `order::Latest::predecessor_of` meets its contract: it is the last event of the event's task.
+-- Assumes nothing.
 use Rattle.model.specs.Relations.{predecessor}
 use Rattle.order.proofs.Latest.predecessor_of.Goals as goal
 

@@ -1,4 +1,5 @@
--- `relations::Trace::related` meets its contract: the tables have the relations of each event. Assumes nothing.
+-- `relations::Trace::related` meets its contract: the tables have the relations of each event.
+-- Assumes nothing.
 use Rattle.relations.proofs.Rows.{related_is}
 use Rattle.relations.proofs.Trace.related.Goals as goal
 

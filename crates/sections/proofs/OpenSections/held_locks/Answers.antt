@@ -7,5 +7,6 @@ use Rattle.sections.proofs.OpenSections.held_locks.Goals as goal
 
 pub returns : goal.returns
 returns c =
-    rw c.task.ensures.1
-    (locksets-held (decode_all c.args.records.now) c.args.e _ c.requires.2.lockset (omega (arith, c.task.ensures)))
+    let small = c.task.ensures in
+    rw small.1
+    (locksets-held (decode_all c.args.records.now) c.args.e _ c.requires.2.lockset (omega (arith, small)))
