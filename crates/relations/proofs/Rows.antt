@@ -30,7 +30,7 @@ use Rattle.laws.proofs.Marks.{marked_match}
 use Rattle.laws.proofs.Awaited.{writer_off}
 use Rattle.relations.specs.declared.Row.{Row}
 use Rattle.relations.specs.declared.Walk.{Walk}
-use Rattle.relations.specs.Tables.{blank, row, IsRow, Tabled, Noted}
+use Rattle.relations.specs.Tables.{blank, row, IsRow, Tabled, Noted, Walked}
 
 -- The row with another match.
 abbrev pub with_match : Row → ℕ → Row
@@ -46,31 +46,28 @@ rematched z q = record {
   matching_is = q;
 }
 
-module _ {σ : Trace} {e : ℕ} {walk : Walk} (z : Noted σ e walk) (l : e < length walk.rows) {r : Row}
+module _ {σ : Trace} {e : ℕ} {rows : List Row} (z : Noted σ e rows) (l : e < length rows) {r : Row}
     (n : IsRow σ (e + 1) e r) where
   -- Once event e has its row, the row of an event whose match it leaves is right.
   row_left : (f : ℕ) → 1 ≤ f → f < e + 1 → (f < e → marked_before σ (suc e) f ≡ marked_before σ e f)
-      → IsRow σ (e + 1) f (row (set walk.rows e r) f)
+      → IsRow σ (e + 1) f (row (set rows e r) f)
   row_left f h k left =
       ⊎_elim
-      (λ (q : f ≡ e). rw (q, get_or-set_same walk.rows e r blank l) n)
+      (λ (q : f ≡ e). rw (q, get_or-set_same rows e r blank l) n)
       (λ (m : f ≢ e).
-      let old = z.row_at f h (omega arith) in
-      rw (get_or-set_other walk.rows e f r blank m)
+      let old = z.at f h (omega arith) in
+      rw (get_or-set_other rows e f r blank m)
       (rematched old (old.matching_is ∙ rw (add-one e) (sym (left (omega arith))))))
       (equal? f e)
 
   -- An event that is no outer release leaves all of them.
-  pub row_noted : is_release σ e ≡ false → (f : ℕ) → 1 ≤ f → f < e + 1
-      → IsRow σ (e + 1) f (row (set walk.rows e r) f)
-  row_noted d f h k = row_left f h k (λ b. marked_keep σ e f b d)
+  pub row_noted : is_release σ e ≡ false → Noted σ (e + 1) (set rows e r)
+  row_noted d = record { at = λ f h k. row_left f h k (λ b. marked_keep σ e f b d) }
 
   -- An outer release is also the match of its acquire.
   pub release_noted : WellFormed σ → (1 ≤ e) × (e ≤ length σ) → T (is_release σ e)
-      → (f : ℕ) → 1 ≤ f → f < e + 1
-      → IsRow σ (e + 1) f (row (set (set walk.rows e r) r.matching
-      (with_match (row (set walk.rows e r) r.matching) e)) f)
-  release_noted ok i t f h k = ⊎_elim acquire other (equal? f r.matching)
+      → Noted σ (e + 1) (set (set rows e r) r.matching (with_match (row (set rows e r) r.matching) e))
+  release_noted ok i t = record { at = λ f h k. ⊎_elim (acquire f) (other f h k) (equal? f r.matching) }
     where
       latest : r.matching ≡ last_before e (λ f. is_acquire σ f && eqb (object σ e) (object σ f))
       latest =
@@ -81,37 +78,38 @@ module _ {σ : Trace} {e : ℕ} {walk : Walk} (z : Noted σ e walk) (l : e < len
       opened = rw latest (opened_acquire σ ok e i t)
 
       closed : Row
-      closed = with_match (row (set walk.rows e r) r.matching) e
+      closed = with_match (row (set rows e r) r.matching) e
 
-      acquire : f ≡ r.matching → IsRow σ (e + 1) f (row (set (set walk.rows e r) r.matching closed) f)
-      acquire q =
-          let old = z.row_at r.matching (omega (arith, opened)) (omega (arith, opened)) in
+      acquire : (f : ℕ) → f ≡ r.matching → IsRow σ (e + 1) f (row (set (set rows e r) r.matching closed) f)
+      acquire f q =
+          let old = z.at r.matching (omega (arith, opened)) (omega (arith, opened)) in
           rw (
             q,
-            get_or-set_same (set walk.rows e r) r.matching closed blank
-                (omega (arith, opened, length-set walk.rows e r)),
-            get_or-set_other walk.rows e r.matching r blank (omega (arith, opened)),
+            get_or-set_same (set rows e r) r.matching closed blank
+                (omega (arith, opened, length-set rows e r)),
+            get_or-set_other rows e r.matching r blank (omega (arith, opened)),
           )
           (rematched old (rw (add-one e) (sym (marked_opened σ ok e i t latest))))
 
-      other : f ≢ r.matching → IsRow σ (e + 1) f (row (set (set walk.rows e r) r.matching closed) f)
-      other x =
-          rw (get_or-set_other (set walk.rows e r) r.matching f closed blank x)
+      other : (f : ℕ) → 1 ≤ f → f < e + 1 → f ≢ r.matching
+          → IsRow σ (e + 1) f (row (set (set rows e r) r.matching closed) f)
+      other f h k x =
+          rw (get_or-set_other (set rows e r) r.matching f closed blank x)
           (row_left f h k (λ b. marked_other σ ok e i t latest f b x))
 
 -- After the last event each row has the relations of its event.
-pub noted_end : (b : List ℕ) (e : ℕ) {walk : Walk} → Noted (decode_all b) e walk
-    → e ≤ length b / 2 + 1 → length b / 2 < e
-    → Tabled (decode_all b) (record { rows = walk.rows; starts = walk.latest.starts })
-noted_end b e {walk} z h k = record {
-  held_at = λ f i j. (z.row_at f i (omega (arith, last))).held_is;
-  predecessor_at = λ f i j. (z.row_at f i (omega (arith, last))).predecessor_is;
+pub noted_end : (b : List ℕ) (e : ℕ) {rows : List Row} {walk : Walk} → Noted (decode_all b) e rows
+    → Walked (decode_all b) e walk → e ≤ length b / 2 + 1 → length b / 2 < e
+    → Tabled (decode_all b) (record { rows = rows; starts = walk.latest.starts })
+noted_end b e {walk = walk} z w h k = record {
+  held_at = λ f i j. (z.at f i (omega (arith, last))).held_is;
+  predecessor_at = λ f i j. (z.at f i (omega (arith, last))).predecessor_is;
   start_at = λ t i.
-      let start = z.latest.start in
-      let long = z.latest.starts_long in
+      let start = w.latest.start in
+      let long = w.latest.starts_long in
       rw last at (latest-start_of (decode_all b) e walk.latest.starts start t (omega (arith, long)));
-  awaited_at = λ f i j. (z.row_at f i (omega (arith, last))).awaited_is;
-  matching_at = λ f i j. (rw last at (z.row_at f i (omega (arith, last))).matching_is)
+  awaited_at = λ f i j. (z.at f i (omega (arith, last))).awaited_is;
+  matching_at = λ f i j. (rw last at (z.at f i (omega (arith, last))).matching_is)
       ∙ marked_end (decode_all b) f;
 }
   where

@@ -36,8 +36,11 @@ pub record IsRow (σ : Trace) (e f : ℕ) (r : Row) : Type 0 where
   pub awaited_is : r.awaited ≡ awaited σ f
   pub matching_is : r.matching ≡ marked_before σ e f
 
--- Right before event e is noted each earlier event has its row, and the walk has what noting event e asks for.
-pub record Noted (σ : Trace) (e : ℕ) (walk : Walk) : Type 0 where
-  pub row_at : (f : ℕ) → 1 ≤ f → f < e → IsRow σ e f (row walk.rows f)
+-- Right before event e is noted each earlier event has its row,
+pub record Noted (σ : Trace) (e : ℕ) (rows : List Row) : Type 0 where
+  pub at : (f : ℕ) → 1 ≤ f → f < e → IsRow σ e f (row rows f)
+
+-- and the walk has what noting event e asks for.
+pub record Walked (σ : Trace) (e : ℕ) (walk : Walk) : Type 0 where
   pub section : OpenBefore σ e walk.sections
   pub latest : LatestBefore σ e walk.latest

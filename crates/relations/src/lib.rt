@@ -3,7 +3,6 @@
 #![tactic(auto)]
 
 ghost use Rattle.std.specs.Prelude.{ℕ, ◌+◌, ◌*◌, ◌<◌, ◌≤◌, ◌≡◌, cond, eqb, length, get_or, Ok};
-ghost use Rattle.model.specs.Trace as Events;
 ghost use Rattle.model.specs.Trace.{tasks, variables, at, task, object};
 ghost use Rattle.model.specs.Recording.{decode_all, event_count, trace};
 ghost use Rattle.model.specs.Relations.{held, predecessor};
@@ -16,7 +15,7 @@ ghost use Rattle.laws.specs.EventKinds.{marked};
 ghost use Rattle.laws.specs.Order.{awaited, start_in};
 ghost use Rattle.recording.specs.Asked.{code};
 ghost use Rattle.sections.specs.Kinds.{IsKind};
-ghost use Rattle.relations.specs.Tables.{row, IsRow, Tabled, Noted};
+ghost use Rattle.relations.specs.Tables.{row, IsRow, Tabled, Noted, Walked};
 
 use model::{Question, Refusal, Related};
 use order::Latest;
@@ -58,37 +57,19 @@ struct Row {
     matching: u16,
 }
 
-// The rows of the events to one, and what those of later events ask for of these.
+// What the rows of later events ask for of the earlier ones.
 #[derive(Drop)]
 struct Walk {
-    rows: [Row; 4096],
     sections: OpenSections,
     latest: Latest,
 }
 
 impl Walk {
-    // Before event 1 there is no row.
-    fn new() -> Walk
-        ensures { (σ : Events.Trace) → Noted σ 1 result }
-    {
-        let blank = Row {
-            held: 0,
-            predecessor: 0,
-            awaited: 0,
-            matching: 0,
-        };
-        Walk {
-            rows: [blank; 4096],
-            sections: OpenSections::new(),
-            latest: Latest::new(),
-        }
-    }
-
     // The row of event e, of kind k, as far as the events to it show its match.
     fn row_of(&self, records: &[u8], e: usize, k: Kind) -> Row
         requires { (1 ≤ e) × (2 * e ≤ length records.now) × (e < table_length)
             × ((check_events (decode_all records.now)).refusal ≡ 0) × IsKind (decode_all records.now) e k
-            × Noted (decode_all records.now) e self.now }
+            × Walked (decode_all records.now) e self.now }
         ensures { (result.matching ≤ e) × IsRow (decode_all records.now) (e + 1) e result }
     {
         Row {
@@ -99,37 +80,41 @@ impl Walk {
         }
     }
 
-    // Notes event e: an outer release is then also the match of its acquire.
-    fn note(&mut self, records: &[u8], e: usize)
+    // Notes event e in its row; an outer release is then also the match of its acquire.
+    fn note(&mut self, records: &[u8], e: usize, rows: &mut [Row; 4096])
         requires { (1 ≤ e) × (2 * e ≤ length records.now) × (e < table_length)
             × ((check_events (decode_all records.now)).refusal ≡ 0)
-            × Noted (decode_all records.now) e self.old }
-        ensures { Noted (decode_all records.now) (e + 1) self.new }
+            × Walked (decode_all records.now) e self.old × Noted (decode_all records.now) e rows.old }
+        ensures { Walked (decode_all records.now) (e + 1) self.new
+            × Noted (decode_all records.now) (e + 1) rows.new }
     {
         let kind = self.sections.kind_of(records, e);
         let row = self.row_of(records, e, kind);
         self.sections.note(records, e, kind);
         self.latest.note(records, e);
-        self.rows[e] = row;
+        rows[e] = row;
         match kind {
-            Kind::Release => self.rows[row.matching as usize].matching = e as u16,
+            Kind::Release => rows[row.matching as usize].matching = e as u16,
             _ => {}
         }
     }
 }
 
-// The tables of the records, whose events are accepted: one pass, each event noted in turn.
-fn tables_of(records: &[u8]) -> Tables
-    requires { (length records.now ≤ records_length) × ((check_events (decode_all records.now)).refusal ≡ 0) }
-    ensures { Tabled (decode_all records.now) result }
-{
-    let mut walk = Walk::new();
-    for e in 1..records.len() / 2 + 1 {
-        walk.note(records, e);
-    }
-    Tables {
-        rows: walk.rows,
-        starts: walk.latest.starts,
+impl Tables {
+    // Fills the tables of the records, whose events are accepted: one pass, each event noted in turn.
+    fn fill(&mut self, records: &[u8])
+        requires { (length records.now ≤ records_length)
+            × ((check_events (decode_all records.now)).refusal ≡ 0) }
+        ensures { Tabled (decode_all records.now) self.new }
+    {
+        let mut walk = Walk {
+            sections: OpenSections::new(),
+            latest: Latest::new(),
+        };
+        for e in 1..records.len() / 2 + 1 {
+            walk.note(records, e, &mut self.rows);
+        }
+        self.starts = walk.latest.starts;
     }
 }
 
@@ -151,7 +136,17 @@ impl<'a> Trace<'a> {
         ensures length { length result.records.now ≡ 2 * event_count recording.now }
     {
         let records = &recording[2..];
-        let tables = tables_of(records);
+        let blank = Row {
+            held: 0,
+            predecessor: 0,
+            awaited: 0,
+            matching: 0,
+        };
+        let mut tables = Tables {
+            rows: [blank; 4096],
+            starts: [0; 16],
+        };
+        tables.fill(records);
         Trace { records, tables }
     }
 

@@ -14,15 +14,15 @@ slice_bounds-records-count c = (check_bytes c.args.recording.now c.requires).0
 pub slice_bounds-records-start : goal.slice_bounds-records-start
 slice_bounds-records-start c = let h = (check_bytes c.args.recording.now c.requires).0 in search rules
 
-pub tables_of-tables-requires : goal.tables_of-tables-requires
-tables_of-tables-requires c =
+pub fill-requires : goal.fill-requires
+fill-requires c =
     let b = c.args.recording.now in
     (part_small b c.requires (c.type_inv.recording 1).fits, part_accepted b c.requires)
 
 pub invariant_of-result : goal.invariant_of-result
 invariant_of-result c =
     let b = c.args.recording.now in
-    let z = c.tables_of-tables.ensures in
+    let z = c.fill.ensures in
     let n = decode_all-length (take (length b - 2) (drop 2 b)) in
     record {
       short = part_small b c.requires (c.type_inv.recording 1).fits;
