@@ -2,18 +2,15 @@
 use Prim.Native.Nat.{ℕ, ◌≤◌, ◌<◌}
 use mathlib.Core.Path.{◌≡◌, refl, sym, ◌∙◌}
 use mathlib.Core.Logic.{⊎_elim, ◌≢◌}
-use mathlib.Core.Bool.{Bool, true, false, cond, not, ◌&&◌, ◌||◌, or-true}
+use mathlib.Core.Bool.{Bool, true, false, cond, not, ◌&&◌, ◌||◌}
 use native.Mathlib.Omega.{arith}
-use lib.Dec.{T, not_T, eqb}
-use borrow.Author.Tests.{ne_eqb, lt-ltb}
-use Rattle.model.specs.Trace.{Trace, locks, at, object, is_read, is_write, has_acquire_op, has_release_op}
+use lib.Dec.{T, eqb}
+use borrow.Author.Tests.{ne_eqb, lt-ltb, eqb-true}
+use Rattle.model.specs.Trace.{Trace, locks, at, object, is_read, has_acquire_op, has_release_op}
 use Rattle.model.specs.Trace.{enters, leaves, own_depth, is_acquire, is_release, is_inner}
-use Rattle.model.specs.Tasks.{is_start, is_join}
 use Rattle.laws.specs.EventKinds.{uncounted_kind, is_uncounted, kind}
-use Rattle.laws.proofs.Tests.{parts, decided, equal?, is_true, is_false, and_i, and_l, or_l, or_r}
+use Rattle.laws.proofs.Tests.{parts, decided, equal?, is_true, and_i, or_l, or_r}
 use Rattle.laws.proofs.Tests.{or_elim}
-use Rattle.laws.proofs.Trace.{release-object}
-use Rattle.laws.proofs.Tasks.{acquire-start, join-object}
 use Rattle.laws.proofs.Operations.{is_acquire_op, is_release_op, is_acquire-none, is_release-none}
 use Rattle.laws.proofs.Operations.{is_acquire-task, is_release-task}
 
@@ -47,13 +44,6 @@ module _ (σ : Trace) (e : ℕ) {k : ℕ} (q : k ≡ kind σ e) where
       rw q (by-operation σ e (λ op x y. eqb op 0 ≡ eqb (kind_of op x y) 0) refl refl refl refl
       (λ op m n. rw (ne_eqb op 2 m, ne_eqb op 3 n)))
 
-  -- a write's is 1,
-  pub is_write-kind : is_write σ e ≡ eqb k 1
-  unfolding kind is_uncounted is_write has_acquire_op has_release_op
-  is_write-kind =
-      rw q (by-operation σ e (λ op x y. eqb op 1 ≡ eqb (kind_of op x y) 1) refl refl refl refl
-      (λ op m n. rw (ne_eqb op 2 m, ne_eqb op 3 n)))
-
   -- an outer acquire's is 2,
   pub is_acquire-kind : is_acquire σ e ≡ eqb k 2
   unfolding kind is_uncounted has_acquire_op has_release_op
@@ -75,33 +65,6 @@ module _ (σ : Trace) (e : ℕ) {k : ℕ} (q : k ≡ kind σ e) where
       rw q (decided (is_uncounted σ e) (λ y. rw y) (λ n. rw n (sym (ne_eqb (at σ e).op uncounted_kind d))))
 
 module _ (σ : Trace) (e : ℕ) where
-  -- A start is such a record,
-  start_uncounted : T (is_start σ e) → is_uncounted σ e ≡ true
-  unfolding is_uncounted is_start
-  start_uncounted s =
-      let acquires = is_true (has_acquire_op σ e) (and_l (has_acquire_op σ e) _ s) in
-      let none = is_false (is_acquire σ e) (not_T (is_acquire σ e) (λ a. acquire-start σ e a s)) in
-      rw (acquires, none)
-
-  -- and so is a join.
-  join_uncounted : T (is_join σ e) → is_uncounted σ e ≡ true
-  unfolding is_uncounted is_join
-  join_uncounted j =
-      let releases = is_true (has_release_op σ e) (and_l (has_release_op σ e) _ j) in
-      let none = is_false (is_release σ e) (not_T (is_release σ e) (λ r.
-      omega (arith, release-object σ e r, join-object σ e j))) in
-      rw (releases, none, or-true)
-
-  -- So an event of another kind neither starts a task
-  pub is_start-kind : {k : ℕ} → k ≡ kind σ e → k ≢ uncounted_kind → is_start σ e ≡ false
-  unfolding kind
-  is_start-kind q d = is_false (is_start σ e) (not_T (is_start σ e) (λ s. d (q ∙ rw (start_uncounted s))))
-
-  -- nor joins one.
-  pub is_join-kind : {k : ℕ} → k ≡ kind σ e → k ≢ uncounted_kind → is_join σ e ≡ false
-  unfolding kind
-  is_join-kind q d = is_false (is_join σ e) (not_T (is_join σ e) (λ j. d (q ∙ rw (join_uncounted j))))
-
   -- A record that does not count is no outer acquire,
   pub uncounted_acquire : is_uncounted σ e ≡ true → is_acquire σ e ≡ false
   unfolding kind
@@ -124,6 +87,12 @@ module _ (σ : Trace) (e : ℕ) where
   -- and neither is an outer release.
   pub release_uncounted : T (is_release σ e) → is_uncounted σ e ≡ false
   release_uncounted a = decided (is_uncounted σ e) (λ y. absurd (rw (uncounted_release y) at a)) (λ n. n)
+
+  -- An outer release is no outer acquire.
+  pub release_acquire : T (is_release σ e) → is_acquire σ e ≡ false
+  release_acquire r =
+      let three = eqb-true (kind σ e) 3 (sym (is_release-kind σ e refl) ∙ is_true (is_release σ e) r) in
+      is_acquire-kind σ e refl ∙ ne_eqb (kind σ e) 2 (omega arith)
 
   -- An inner acquire or release is one.
   pub inner_uncounted : T (is_inner σ e) → is_uncounted σ e ≡ true

@@ -1,11 +1,10 @@
--- How one event changes a table of the latest event of each kind, and one that is filled event by event; what
--- they hold is in specs/Walked. Assumes nothing.
-use Prim.Native.Nat.{ℕ, suc, ◌+◌, ◌≤◌, ◌<◌}
+-- How one event changes a table of the latest event of each kind; what it holds is in specs/Walked.
+-- Assumes nothing.
+use Prim.Native.Nat.{ℕ, suc, ◌<◌}
 use mathlib.Core.Path.{◌≡◌, ◌∙◌}
 use mathlib.Core.Logic.{⊎_elim, ◌≢◌}
 use mathlib.Core.Bool.{Bool, true, false, cond, not, ◌&&◌, and-false}
 use mathlib.Core.List.{List}
-use native.Mathlib.Omega.{arith}
 use lib.Dec.{T, eqb}
 use lib.ListN.{length, get_or, set, replicate, length-set, length-replicate, get_or-replicate}
 use lib.Seq.{get_or-set_same, get_or-set_other}
@@ -13,9 +12,9 @@ use borrow.Author.Tests.{eq-eqb, ne_eqb}
 use Rattle.model.specs.Lists.{last_before}
 use Rattle.model.specs.Trace.{Trace, task, object, is_read, is_write, same_object}
 use Rattle.model.specs.Tasks.{is_start, is_join, target, starts, joins}
-use Rattle.model.specs.Relations.{latest_of, start_of, join_of, last_of, predecessor, joined, writer}
+use Rattle.model.specs.Relations.{latest_of, start_of, join_of, last_of, writer}
 use Rattle.model.specs.WellFormed.{is_new, is_over}
-use Rattle.laws.specs.Walked.{LatestEvents, Filled}
+use Rattle.laws.specs.Walked.{LatestEvents}
 use Rattle.laws.proofs.Tests.{decided, equal?, is_true}
 
 module _ (test : ℕ → Bool) (key : ℕ → ℕ) where
@@ -49,25 +48,6 @@ module _ (test : ℕ → Bool) (key : ℕ → ℕ) where
   pub latest_keep : (e : ℕ) (table : List ℕ) → LatestEvents test key e table → test e ≡ false
       → LatestEvents test key (suc e) table
   latest_keep e table z f = record { at = λ x h. rw f (z.at x h) }
-
--- ---- what is filled event by event
-
-module _ (relation : ℕ → ℕ) where
-  -- Before event 1 there is nothing.
-  pub filled-start : (table : List ℕ) → Filled relation 1 table
-  filled-start table = record { at = λ f h k. absurd (omega arith) }
-
-  -- Event e gets what the relation gives.
-  pub filled-set : (e v : ℕ) (table : List ℕ) → Filled relation e table → e < length table → v ≡ relation e
-      → Filled relation (e + 1) (set table e v)
-  filled-set e v table z l q =
-      record { at = λ f h k. ⊎_elim (new f) (old f h (omega arith)) (equal? f e) }
-    where
-      new : (f : ℕ) → f ≡ e → get_or (set table e v) f 0 ≡ relation f
-      new f r = rw r (get_or-set_same table e v 0 l ∙ q)
-
-      old : (f : ℕ) → 1 ≤ f → f ≤ e → f ≢ e → get_or (set table e v) f 0 ≡ relation f
-      old f h k d = get_or-set_other table e f v 0 d ∙ z.at f h (omega arith)
 
 -- ---- what the tables of a trace give
 
@@ -110,21 +90,6 @@ module _ (σ : Trace) (e : ℕ) (table starting : List ℕ) (z : LatestEvents (�
       → cond (eqb (get_or table t 0) 0) (get_or starting t 0) (get_or table t 0) ≡ last_of σ e t
   unfolding last_of
   latest_last t h k = rw (latest_of_lem σ e table z t h, latest-start_of σ e starting s t k)
-
-  -- That of the event's task is its predecessor.
-  pub latest-predecessor : task σ e < length table → task σ e < length starting
-      → cond (eqb (get_or table (task σ e) 0) 0) (get_or starting (task σ e) 0) (get_or table (task σ e) 0)
-      ≡ predecessor σ e
-  unfolding predecessor
-  latest-predecessor h k = latest_last (task σ e) h k
-
-  -- That of a joined task is what the join waits for.
-  pub latest-joined : is_join σ e ≡ true → target σ e < length table → target σ e < length starting
-      → cond (eqb (get_or table (target σ e) 0) 0) (get_or starting (target σ e) 0)
-      (get_or table (target σ e) 0)
-      ≡ joined σ e
-  unfolding joined
-  latest-joined j h k = rw j (latest_last (target σ e) h k)
 
   module _ (joining : List ℕ) (j : LatestEvents (is_join σ) (target σ) e joining) where
     -- A start's task is new where no table has it, and it is not the start's own.

@@ -1,5 +1,5 @@
 -- The marks among the matches, by which the records of acquires and releases that do not count are told from
--- outer ones. How the table of matches is filled is in Matches. Assumes nothing.
+-- outer ones. How matches are found event by event is in Matches. Assumes nothing.
 use Prim.Native.Nat.{ℕ, ◌≤◌}
 use mathlib.Core.Path.{◌≡◌, refl, sym, ◌∙◌}
 use mathlib.Core.Logic.{⊎_elim, ◌≢◌}

@@ -9,7 +9,3 @@ records_length = 8190
 -- How long a table of events is: an entry for each event number from 0 to 4,095.
 abbrev pub table_length : ℕ
 table_length = 4096
-
--- How long the table of predecessors is: behind the events it has an entry for each task, with its start.
-abbrev pub order_length : ℕ
-order_length = 4112

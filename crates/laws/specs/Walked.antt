@@ -1,12 +1,11 @@
 -- What the tables of a walk hold right before event e, in terms of the relations: the holder and the depth of
 -- a lock, the locks of each task, the latest event of each kind, and the matches. How one event changes them
 -- is in proofs/LatestEvents, Holders, Kept, LockDepth, Locksets and Matches.
-use Rattle.std.specs.Prelude.{ℕ, suc, ◌+◌, ◌-◌, ◌^◌, ◌≤◌, ◌<◌, ◌≡◌, Bool, cond, ◌&&◌, List, eqb, length}
+use Rattle.std.specs.Prelude.{ℕ, suc, ◌-◌, ◌^◌, ◌≤◌, ◌<◌, ◌≡◌, Bool, cond, ◌&&◌, List, eqb, length}
 use Rattle.std.specs.Prelude.{get_or}
 use Rattle.model.specs.Lists.{last_before, first_from, has_bit}
 use Rattle.model.specs.Trace.{Trace, tasks, locks, same_task, same_object, depth, is_acquire, is_release}
-use Rattle.model.specs.Relations.{start_of, acquire_of, holds}
-use Rattle.laws.specs.Sizes.{table_length}
+use Rattle.model.specs.Relations.{acquire_of, holds}
 use Rattle.laws.specs.EventKinds.{is_uncounted}
 
 -- Lock l has task h - 1 at depth d as its holder, or none where h and d are 0 (02: the record kept for each
@@ -53,14 +52,6 @@ pub record Locksets (σ : Trace) (e : ℕ) (table : List ℕ) : Type 0 where
 pub record LatestEvents (test : ℕ → Bool) (key : ℕ → ℕ) (e : ℕ) (table : List ℕ) : Type 0 where
   pub at : (x : ℕ) → x < length table → get_or table x 0 ≡ last_before e (λ f. test f && eqb x (key f))
 
--- Behind the events, for each task its start before e, or 0.
-pub record Starts (σ : Trace) (e : ℕ) (table : List ℕ) : Type 0 where
-  pub at : (t : ℕ) → t < tasks → get_or table (table_length + t) 0 ≡ start_of σ e t
-
--- For each event before e what the relation gives.
-pub record Filled (relation : ℕ → ℕ) (e : ℕ) (table : List ℕ) : Type 0 where
-  pub at : (f : ℕ) → 1 ≤ f → f < e → get_or table f 0 ≡ relation f
-
 -- The match of event f, as far as the events before e show it: of an acquire, the first release of it there.
 unfoldable pub matching_before : Trace → ℕ → ℕ → ℕ
 matching_before σ e f =
@@ -68,7 +59,6 @@ matching_before σ e f =
     (first_from (suc f) (e - suc f) (λ g. is_release σ g && same_object σ f g && same_task σ f g))
     (cond (is_release σ f) (acquire_of σ f) 0)
 
--- For each event before e its match, as far as these events show it; a record that does not count has its own
--- number, which is no match.
-pub record Matches (σ : Trace) (e : ℕ) (table : List ℕ) : Type 0 where
-  pub at : (f : ℕ) → 1 ≤ f → f < e → get_or table f 0 ≡ cond (is_uncounted σ f) f (matching_before σ e f)
+-- The same, but that a record that does not count has its own number, which is no match.
+unfoldable pub marked_before : Trace → ℕ → ℕ → ℕ
+marked_before σ e f = cond (is_uncounted σ f) f (matching_before σ e f)

@@ -1,2 +1,2 @@
--- Laws of noting an event's order; each function's proof is in a folder of its own.
+-- Laws of an event's order; each function's proof is in a folder of its own.
 pub mod Laws

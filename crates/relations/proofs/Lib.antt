@@ -1,2 +1,2 @@
--- Laws of noting one event in the tables; each function's proof is in a folder of its own.
-pub mod Tabled
+-- Laws of the rows of events; each function's proof is in a folder of its own.
+pub mod Rows

@@ -1,34 +1,46 @@
--- The tables of a recording: for each event 1 to n what the definitions say of it, but that one table has what
--- an event awaits, a read its writer and a join what it waits for, and that of matches the own number of an inner
--- event, a start or a join.
-use Rattle.std.specs.Prelude.{ℕ, suc, ◌≤◌, ◌≡◌, true, length, get_or}
-use Rattle.model.specs.Trace.{Trace, task, object, is_write, is_acquire}
+-- The tables of a recording: for each event 1 to n what the definitions say of it, but that a row has what
+-- the event awaits, a read its writer and a join what it waits for, and as the match of an inner event, a start
+-- or a join its own number.
+use Rattle.std.specs.Prelude.{ℕ, ◌≤◌, ◌<◌, ◌≡◌, List, length, get_or}
+use Rattle.model.specs.Trace.{Trace, tasks}
 use Rattle.model.specs.Relations.{predecessor, held}
-use Rattle.laws.specs.Order.{awaited}
-use Rattle.laws.specs.Walked.{Filled, LatestEvents, Starts, KeptDepths, Locksets, Matches}
+use Rattle.laws.specs.Order.{awaited, start_in}
+use Rattle.laws.specs.Walked.{marked_before}
 use Rattle.laws.specs.EventKinds.{marked}
+use Rattle.order.specs.Kept.{LatestBefore}
+use Rattle.sections.specs.Kept.{OpenBefore}
+use Rattle.relations.specs.declared.Row.{Row}
 use Rattle.relations.specs.declared.Tables.{Tables}
 use Rattle.relations.specs.declared.Walk.{Walk}
 
--- Each table has its relation at the index of each event, that of matches with marks; behind the predecessors
--- are the tasks' starts.
-pub record Tabled (σ : Trace) (tables : Tables) : Type 0 where
-  pub held_at : (e : ℕ) → 1 ≤ e → e ≤ length σ → get_or tables.holding e 0 ≡ held σ e
-  pub predecessor_at : (e : ℕ) → 1 ≤ e → e ≤ length σ → get_or tables.predecessors e 0 ≡ predecessor σ e
-  pub start_at : Starts σ (suc (length σ)) tables.predecessors
-  pub awaited_at : (e : ℕ) → 1 ≤ e → e ≤ length σ → get_or tables.awaited e 0 ≡ awaited σ e
-  pub matching_at : (e : ℕ) → 1 ≤ e → e ≤ length σ → get_or tables.matches e 0 ≡ marked σ e
+-- A row of zeros.
+abbrev pub blank : Row
+blank = record { held = 0; predecessor = 0; awaited = 0; matching = 0 }
 
--- The tables right before event e is noted: each has its relation for the earlier events, and the walk has what
--- noting event e asks for.
-pub record Noted (σ : Trace) (e : ℕ) (tables : Tables) (walk : Walk) : Type 0 where
-  pub held_filled : Filled (held σ) e tables.holding
-  pub predecessor_filled : Filled (predecessor σ) e tables.predecessors
-  pub start_filled : Starts σ e tables.predecessors
-  pub awaited_filled : Filled (awaited σ) e tables.awaited
-  pub matching_filled : Matches σ e tables.matches
-  pub latest_event : LatestEvents (λ f. true) (task σ) e walk.latest
-  pub write_latest : LatestEvents (is_write σ) (object σ) e walk.writes
-  pub depth : KeptDepths σ e walk.depths
-  pub lockset : Locksets σ e walk.locksets
-  pub latest_acquire : LatestEvents (is_acquire σ) (object σ) e walk.acquires
+-- The row at the index of event e.
+abbrev pub row : List Row → ℕ → Row
+row rows e = get_or rows e blank
+
+-- Each row has the relations of its event, its match with a mark, and for each task there is its start.
+pub record Tabled (σ : Trace) (tables : Tables) : Type 0 where
+  pub held_at : (e : ℕ) → 1 ≤ e → e ≤ length σ → (row tables.rows e).held ≡ held σ e
+  pub predecessor_at : (e : ℕ) → 1 ≤ e → e ≤ length σ → (row tables.rows e).predecessor ≡ predecessor σ e
+  pub start_at : (t : ℕ) → t < tasks → get_or tables.starts t 0 ≡ start_in σ t
+  pub awaited_at : (e : ℕ) → 1 ≤ e → e ≤ length σ → (row tables.rows e).awaited ≡ awaited σ e
+  pub matching_at : (e : ℕ) → 1 ≤ e → e ≤ length σ → (row tables.rows e).matching ≡ marked σ e
+
+-- The row is that of event f, but that its match is as far as the events before e show it.
+pub record IsRow (σ : Trace) (e f : ℕ) (r : Row) : Type 0 where
+  pub held_is : r.held ≡ held σ f
+  pub predecessor_is : r.predecessor ≡ predecessor σ f
+  pub awaited_is : r.awaited ≡ awaited σ f
+  pub matching_is : r.matching ≡ marked_before σ e f
+
+-- Right before event e is noted each earlier event has its row,
+pub record Noted (σ : Trace) (e : ℕ) (rows : List Row) : Type 0 where
+  pub at : (f : ℕ) → 1 ≤ f → f < e → IsRow σ e f (row rows f)
+
+-- and the walk has what noting event e asks for.
+pub record Walked (σ : Trace) (e : ℕ) (walk : Walk) : Type 0 where
+  pub section : OpenBefore σ e walk.sections
+  pub latest : LatestBefore σ e walk.latest

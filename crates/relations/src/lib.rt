@@ -1,5 +1,5 @@
-// The relations of a recording's events: an accepted recording with tables of them, filled in one pass over its
-// records, and the call that gives those of one event.
+// The relations of a recording's events: an accepted recording with tables of them, filled in one pass over
+// its records, and the call that gives those of one event.
 #![tactic(auto)]
 
 ghost use Rattle.std.specs.Prelude.{ℕ, ◌+◌, ◌*◌, ◌<◌, ◌≤◌, ◌≡◌, cond, eqb, length, get_or, Ok};
@@ -14,10 +14,13 @@ ghost use Rattle.laws.specs.Answered.{event_relations};
 ghost use Rattle.laws.specs.EventKinds.{marked};
 ghost use Rattle.laws.specs.Order.{awaited, start_in};
 ghost use Rattle.recording.specs.Asked.{code};
-ghost use Rattle.relations.specs.Tables.{Tabled, Noted};
+ghost use Rattle.sections.specs.Kinds.{IsKind};
+ghost use Rattle.relations.specs.Tables.{row, IsRow, Tabled, Noted, Walked};
 
 use model::{Question, Refusal, Related};
+use order::Latest;
 use recording::Op;
+use sections::{Kind, OpenSections};
 
 // An accepted recording: its records, and tables of what its events' relations are.
 #[derive(Drop)]
@@ -27,78 +30,91 @@ pub struct Trace<'a> {
     ghost short: { length records.now ≤ records_length },
     ghost accepted: { (check_events (decode_all records.now)).refusal ≡ 0 },
     ghost held_at: { (e : ℕ) → 1 ≤ e → 2 * e ≤ length records.now
-        → get_or tables.holding e 0 ≡ held (decode_all records.now) e },
+        → (row tables.rows e).held ≡ held (decode_all records.now) e },
     ghost predecessor_at: { (e : ℕ) → 1 ≤ e → 2 * e ≤ length records.now
-        → get_or tables.predecessors e 0 ≡ predecessor (decode_all records.now) e },
-    ghost start_at: { (t : ℕ) → t < tasks
-        → get_or tables.predecessors (table_length + t) 0 ≡ start_in (decode_all records.now) t },
+        → (row tables.rows e).predecessor ≡ predecessor (decode_all records.now) e },
+    ghost start_at: { (t : ℕ) → t < tasks → get_or tables.starts t 0 ≡ start_in (decode_all records.now) t },
     ghost awaited_at: { (e : ℕ) → 1 ≤ e → 2 * e ≤ length records.now
-        → get_or tables.awaited e 0 ≡ awaited (decode_all records.now) e },
+        → (row tables.rows e).awaited ≡ awaited (decode_all records.now) e },
     ghost marked_at: { (e : ℕ) → 1 ≤ e → 2 * e ≤ length records.now
-        → get_or tables.matches e 0 ≡ marked (decode_all records.now) e },
+        → (row tables.rows e).matching ≡ marked (decode_all records.now) e },
 }
 
-// Of each event the held locks, the predecessor, what it awaits (a read its writer, a join what it waits for),
-// and its match, or for an inner event, a start or a join its own number. Behind the predecessors there is an
-// entry for each task, with its start.
+// For each event its row, and for each task its start.
 #[derive(Drop)]
 struct Tables {
-    holding: [u64; 4096],
-    predecessors: [u16; 4112],
-    awaited: [u16; 4096],
-    matches: [u16; 4096],
+    rows: [Row; 4096],
+    starts: [u16; 16],
 }
 
-// What noting an event asks for of the earlier ones: the latest event of each task, the latest write of each
-// variable, the depth of each lock, or 1 where it has none, the locks of each task, and the latest acquire of
-// each lock.
+// What is noted of an event: its held locks, its predecessor, what it awaits (a read its writer, a join what
+// it waits for), and its match, or for an inner event, a start or a join its own number.
+#[derive(Clone, Copy)]
+struct Row {
+    held: u64,
+    predecessor: u16,
+    awaited: u16,
+    matching: u16,
+}
+
+// What the rows of later events ask for of the earlier ones.
 #[derive(Drop)]
 struct Walk {
-    latest: [u16; 16],
-    writes: [u16; 1024],
-    depths: [u16; 64],
-    locksets: [u64; 16],
-    acquires: [u16; 64],
+    sections: OpenSections,
+    latest: Latest,
 }
 
-// Notes event e in every table.
-fn note_event(records: &[u8], e: usize, tables: &mut Tables, walk: &mut Walk)
-    requires { (1 ≤ e) × (2 * e ≤ length records.now) × (e < table_length)
-        × ((check_events (decode_all records.now)).refusal ≡ 0)
-        × Noted (decode_all records.now) e tables.old walk.old }
-    ensures { Noted (decode_all records.now) (e + 1) tables.new walk.new }
-{
-    let mask = sections::held_locks(records, e, &walk.locksets);
-    let kind = sections::kind_of(records, e, mask, &mut walk.depths);
-    sections::note_lockset(records, e, kind, &mut walk.locksets);
-    sections::note_match(records, e, kind, &mut tables.matches, &mut walk.acquires);
-    tables.holding[e] = mask;
-    order::note_order(
-        records,
-        e,
-        kind,
-        &mut tables.predecessors,
-        &mut walk.latest,
-        &mut tables.awaited,
-        &mut walk.writes,
-    );
+impl Walk {
+    // The row of event e, of kind k, as far as the events to it show its match.
+    fn row_of(&self, records: &[u8], e: usize, k: Kind) -> Row
+        requires { (1 ≤ e) × (2 * e ≤ length records.now) × (e < table_length)
+            × ((check_events (decode_all records.now)).refusal ≡ 0) × IsKind (decode_all records.now) e k
+            × Walked (decode_all records.now) e self.now }
+        ensures { (result.matching ≤ e) × IsRow (decode_all records.now) (e + 1) e result }
+    {
+        Row {
+            held: self.sections.held_locks(records, e),
+            predecessor: self.latest.predecessor_of(records, e),
+            awaited: self.latest.awaited_by(records, e),
+            matching: self.sections.match_of(records, e, k),
+        }
+    }
+
+    // Notes event e in its row; an outer release is then also the match of its acquire.
+    fn note(&mut self, records: &[u8], e: usize, rows: &mut [Row; 4096])
+        requires { (1 ≤ e) × (2 * e ≤ length records.now) × (e < table_length)
+            × ((check_events (decode_all records.now)).refusal ≡ 0)
+            × Walked (decode_all records.now) e self.old × Noted (decode_all records.now) e rows.old }
+        ensures { Walked (decode_all records.now) (e + 1) self.new
+            × Noted (decode_all records.now) (e + 1) rows.new }
+    {
+        let kind = self.sections.kind_of(records, e);
+        let row = self.row_of(records, e, kind);
+        self.sections.note(records, e, kind);
+        self.latest.note(records, e);
+        rows[e] = row;
+        match kind {
+            Kind::Release => rows[row.matching as usize].matching = e as u16,
+            _ => {}
+        }
+    }
 }
 
-// Fills the tables of the records, whose events are accepted: one pass, each event noted in turn.
-fn fill_tables(records: &[u8], tables: &mut Tables)
-    requires { (length records.now ≤ records_length) × ((check_events (decode_all records.now)).refusal ≡ 0) }
-    ensures { Tabled (decode_all records.now) tables.new }
-{
-    let mut walk = Walk {
-        latest: [0; 16],
-        writes: [0; 1024],
-        depths: [1; 64],
-        locksets: [0; 16],
-        acquires: [0; 64],
-    };
-    order::clear_starts(&mut tables.predecessors);
-    for e in 1..records.len() / 2 + 1 {
-        note_event(records, e, tables, &mut walk);
+impl Tables {
+    // Fills the tables of the records, whose events are accepted: one pass, each event noted in turn.
+    fn fill(&mut self, records: &[u8])
+        requires { (length records.now ≤ records_length)
+            × ((check_events (decode_all records.now)).refusal ≡ 0) }
+        ensures { Tabled (decode_all records.now) self.new }
+    {
+        let mut walk = Walk {
+            sections: OpenSections::new(),
+            latest: Latest::new(),
+        };
+        for e in 1..records.len() / 2 + 1 {
+            walk.note(records, e, &mut self.rows);
+        }
+        self.starts = walk.latest.starts;
     }
 }
 
@@ -120,13 +136,17 @@ impl<'a> Trace<'a> {
         ensures length { length result.records.now ≡ 2 * event_count recording.now }
     {
         let records = &recording[2..];
-        let mut tables = Tables {
-            holding: [0; 4096],
-            predecessors: [0; 4112],
-            awaited: [0; 4096],
-            matches: [0; 4096],
+        let blank = Row {
+            held: 0,
+            predecessor: 0,
+            awaited: 0,
+            matching: 0,
         };
-        fill_tables(records, &mut tables);
+        let mut tables = Tables {
+            rows: [blank; 4096],
+            starts: [0; 16],
+        };
+        tables.fill(records);
         Trace { records, tables }
     }
 
@@ -167,7 +187,7 @@ impl<'a> Trace<'a> {
         requires { (1 ≤ e) × (2 * e ≤ length self.now.records.now) }
         ensures { result ≡ held (decode_all self.now.records.now) e }
     {
-        self.tables.holding[e]
+        self.tables.rows[e].held
     }
 
     // The predecessor of event e, or 0.
@@ -175,7 +195,7 @@ impl<'a> Trace<'a> {
         requires { (1 ≤ e) × (2 * e ≤ length self.now.records.now) }
         ensures { result ≡ predecessor (decode_all self.now.records.now) e }
     {
-        self.tables.predecessors[e]
+        self.tables.rows[e].predecessor
     }
 
     // The start of task t, or 0.
@@ -183,7 +203,7 @@ impl<'a> Trace<'a> {
         requires { t < tasks }
         ensures { result ≡ start_in (decode_all self.now.records.now) t }
     {
-        self.tables.predecessors[4096 + t]
+        self.tables.starts[t]
     }
 
     // What event e awaits besides its predecessor: a read its writer, a join what it waits for, or 0.
@@ -191,7 +211,7 @@ impl<'a> Trace<'a> {
         requires { (1 ≤ e) × (2 * e ≤ length self.now.records.now) }
         ensures { result ≡ awaited (decode_all self.now.records.now) e }
     {
-        self.tables.awaited[e]
+        self.tables.rows[e].awaited
     }
 
     // The match of event e, or 0; of an inner event, a start or a join its own number.
@@ -199,7 +219,7 @@ impl<'a> Trace<'a> {
         requires { (1 ≤ e) × (2 * e ≤ length self.now.records.now) }
         ensures { result ≡ marked (decode_all self.now.records.now) e }
     {
-        self.tables.matches[e]
+        self.tables.rows[e].matching
     }
 
     // The relations of event e.

@@ -1,129 +1,178 @@
--- What noting one event does to the table of the tasks' locks and to that of matches, by its kind.
--- Assumes nothing.
+-- The match of one event by its kind, and what noting the event does to what is kept. Assumes nothing.
 use Prim.Native.Nat.{ℕ, ◌+◌, ◌*◌, ◌%◌, ◌^◌, ◌≤◌, ◌<◌}
-use mathlib.Core.Path.{◌≡◌, ◌∙◌}
-use mathlib.Core.Logic.{⊎_elim, ◌≢◌}
-use mathlib.Core.Bool.{true, false, ◌||◌}
+use mathlib.Core.Path.{◌≡◌, sym, ◌∙◌}
+use mathlib.Core.Logic.{◌≢◌}
+use mathlib.Core.Bool.{true, false, ◌&&◌}
 use mathlib.Core.List.{List}
 use native.Mathlib.Numerals.{add-one}
 use native.Mathlib.Omega.{arith}
 use lib.Bits.{bit_or, bit_xor}
-use lib.Dec.{T}
-use lib.ListN.{length, get_or, set}
+use lib.Dec.{T, eqb}
+use lib.ListN.{length, get_or, set, length-set}
 use borrow.Author.Tests.{eq-eqb, ne_eqb}
-use Rattle.model.specs.Trace.{Trace, tasks, locks, variables, at, task, object, is_acquire}
-use Rattle.model.specs.Trace.{is_release}
-use Rattle.model.specs.Relations.{held}
-use Rattle.laws.specs.Walked.{LatestEvents, Locksets, Matches}
-use Rattle.laws.proofs.Tests.{or_l, or_r, is_true, equal?}
+use Rattle.model.specs.Lists.{last_before}
+use Rattle.model.specs.Trace.{Trace, tasks, locks, variables, at, task, object, is_acquire, is_release}
+use Rattle.laws.specs.EventKinds.{uncounted_kind, is_uncounted, kind}
+use Rattle.laws.specs.Walked.{LatestEvents, KeptDepths, Locksets, marked_before}
+use Rattle.laws.proofs.Tests.{is_true}
+use Rattle.laws.proofs.Trace.{acquire-object, release-object}
 use Rattle.laws.proofs.LatestEvents.{latest-set, latest_keep}
-use Rattle.laws.proofs.Locksets.{locksets-held, locksets_acquire, locksets_release, locksets_access}
-use Rattle.laws.specs.EventKinds.{uncounted_kind, kind}
+use Rattle.laws.proofs.Locksets.{locksets_acquire, locksets_release, locksets_access}
 use Rattle.laws.proofs.EventKinds.{is_acquire-kind, is_release-kind, is_uncounted-kind}
-use Rattle.laws.proofs.WellFormed.{WellFormed, lock_lt, release-held}
+use Rattle.laws.proofs.WellFormed.{WellFormed, release-held}
 use Rattle.laws.proofs.OpenAcquires.{opened_acquire}
-use Rattle.laws.proofs.Matches.{matches_keep, matches_release}
+use Rattle.laws.proofs.Matches.{marked_new, marked_release}
+use Rattle.sections.specs.declared.Kind as K
+use Rattle.sections.specs.declared.OpenSections.{OpenSections}
+use Rattle.sections.specs.Kinds.{kind_code, IsKind}
+use Rattle.sections.specs.Kept.{OpenBefore}
+use Rattle.sections.proofs.KindOf.{Coming, access_depths, outer_acquire, outer_release}
 
--- The mask of the event's task is that of its held locks.
-pub held_mask : (σ : Trace) (e t : ℕ) → (t < tasks) × (t ≡ task σ e) → (locksets : List ℕ)
-    → Locksets σ e locksets → get_or locksets t 0 ≡ held σ e
-held_mask σ e t is-task locksets z = rw is-task.1 (locksets-held σ e locksets z (omega arith))
-
--- Event e of a well-formed trace, with its kind.
-pub record OfKind (σ : Trace) (e k : ℕ) : Type 0 where
+-- Event e of a well-formed trace, with its kind, and what is kept before it.
+pub record OfKind (σ : Trace) (e : ℕ) (k : K.Kind) (sections : OpenSections) : Type 0 where
   pub sound : WellFormed σ
   pub event : (1 ≤ e) × (e ≤ length σ)
-  pub op_lt : (at σ e).op < 4
-  pub kind_is : k ≡ kind σ e
+  pub kind_is : IsKind σ e k
+  pub before : OpenBefore σ e sections
 
-module _ {σ : Trace} {e k : ℕ} (u : OfKind σ e k) where
-  acquire : k ≡ 2 → is_acquire σ e ≡ true
-  acquire a = is_acquire-kind σ e u.kind_is ∙ eq-eqb k 2 a
+module _ {σ : Trace} {e : ℕ} {k : K.Kind} {sections : OpenSections} (u : OfKind σ e k sections) where
+  code_is : kind_code k ≡ kind σ e
+  code_is = u.kind_is.code_is
 
-  no_acquire : k ≢ 2 → is_acquire σ e ≡ false
-  no_acquire d = is_acquire-kind σ e u.kind_is ∙ ne_eqb k 2 d
+  acquire : kind_code k ≡ 2 → is_acquire σ e ≡ true
+  acquire a = is_acquire-kind σ e code_is ∙ eq-eqb (kind_code k) 2 a
 
-  release : k ≡ 3 → is_release σ e ≡ true
-  release a = is_release-kind σ e u.kind_is ∙ eq-eqb k 3 a
+  no_acquire : kind_code k ≢ 2 → is_acquire σ e ≡ false
+  no_acquire d = is_acquire-kind σ e code_is ∙ ne_eqb (kind_code k) 2 d
 
-  no_release : k ≢ 3 → is_release σ e ≡ false
-  no_release d = is_release-kind σ e u.kind_is ∙ ne_eqb k 3 d
+  release : kind_code k ≡ 3 → is_release σ e ≡ true
+  release a = is_release-kind σ e code_is ∙ eq-eqb (kind_code k) 3 a
 
-  -- The object of an outer acquire or release is a lock.
-  pub lock_bound : 2 ≤ k → k ≤ 3 → object σ e < locks
-  lock_bound h i = lock_lt σ u.sound e u.event.0 u.event.1 either
-    where
-      either : T (is_acquire σ e || is_release σ e)
-      either =
-          ⊎_elim
-          (λ a. or_l (is_acquire σ e) _ (rw (acquire a) tt))
-          (λ d. or_r (is_acquire σ e) _ (rw (release (omega arith)) tt)) (equal? k 2)
+  no_release : kind_code k ≢ 3 → is_release σ e ≡ false
+  no_release d = is_release-kind σ e code_is ∙ ne_eqb (kind_code k) 3 d
 
-  -- ---- the tasks' locks
+  uncounted : is_uncounted σ e ≡ eqb (kind_code k) uncounted_kind
+  uncounted = is_uncounted-kind σ e code_is (omega (arith, u.kind_is.op_lt))
 
-  module _ {t : ℕ} (is-task : (t < tasks) × (t ≡ task σ e)) (locksets : List ℕ) (z : Locksets σ e locksets)
-    where
-      -- An acquire's task holds its lock,
-      pub acquire_noted : k ≡ 2 → {l : ℕ} → (l < variables) × (l ≡ object σ e)
-          → Locksets σ (e + 1) (set locksets t (bit_or (get_or locksets t 0) (1 * 2 ^ l % 2 ^ 64)))
-      acquire_noted a is-object =
-          rw (add-one e, is-task.1, is-object.1)
-          (locksets_acquire σ e locksets z (omega arith) (acquire a) (lock_bound (omega arith) (omega arith)))
-
-      -- a release's no more,
-      pub release_noted : k ≡ 3 → {l : ℕ} → (l < variables) × (l ≡ object σ e)
-          → Locksets σ (e + 1) (set locksets t (bit_xor (get_or locksets t 0) (1 * 2 ^ l % 2 ^ 64)))
-      release_noted a is-object =
-          let held = release-held σ u.sound e (rw (release a) tt) in
-          rw (add-one e, is-task.1, is-object.1)
-          (locksets_release σ e locksets z (omega arith) (release a)
-          (lock_bound (omega arith) (omega arith)) (is_true _ held))
-
-      -- and other events change nothing.
-      pub access_noted : k ≢ 2 → k ≢ 3 → Locksets σ (e + 1) locksets
-      access_noted c d = rw (add-one e) (locksets_access σ e locksets (no_acquire c) (no_release d) z)
+  -- A kind that counts is the operation.
+  op_is : kind_code k ≢ uncounted_kind → kind_code k ≡ (at σ e).op
+  unfolding kind
+  op_is d = code_is ∙ rw (uncounted ∙ ne_eqb (kind_code k) uncounted_kind d)
 
   -- ---- matches
 
-  module _ {l : ℕ} (is-object : (l < variables) × (l ≡ object σ e)) (acquires : List ℕ)
-      (long : length acquires ≡ locks) (z : LatestEvents (is_acquire σ) (object σ) e acquires) where
-    -- The latest acquire of a release's lock is earlier.
-    pub opened_bound : k ≡ 3 → get_or acquires l 0 < e
-    opened_bound a =
-        rw (is-object.1, z.at (object σ e) (omega (arith, lock_bound (omega arith) (omega arith))))
-        (opened_acquire σ u.sound e u.event (rw (release a) tt)).1
+  -- An inner event, a start or a join has its own number,
+  pub uncounted_match : kind_code k ≡ uncounted_kind → e ≡ marked_before σ (e + 1) e
+  uncounted_match a =
+      let is = uncounted ∙ eq-eqb (kind_code k) uncounted_kind a in
+      rw (add-one e) (sym (marked_new σ e (no_release (omega arith)) ∙ rw is))
 
-    -- A release and that acquire are each other's match.
-    pub release_matched : k ≡ 3 → (table : List ℕ) → Matches σ e table → e < length table
-        → Matches σ (e + 1) (set (set table (get_or acquires l 0) e) e (get_or acquires l 0))
-    release_matched a table m i =
+  -- and another one that is no outer release has no match yet.
+  pub no_match : kind_code k ≢ 3 → kind_code k ≢ uncounted_kind → ◌≡◌ {A = ℕ} 0 (marked_before σ (e + 1) e)
+  no_match d n =
+      let counted = uncounted ∙ ne_eqb (kind_code k) uncounted_kind n in
+      rw (add-one e) (sym (marked_new σ e (no_release d) ∙ rw counted))
+
+  module _ {l : ℕ} (is-object : (l < variables) × (l ≡ object σ e)) where
+    -- The object of an outer acquire or release is a lock.
+    pub acquire_lock : kind_code k ≡ 2 → l < locks
+    acquire_lock a = rw is-object.1 (acquire-object σ e (rw (acquire a) tt))
+
+    pub release_lock : kind_code k ≡ 3 → l < locks
+    release_lock a = rw is-object.1 (release-object σ e (rw (release a) tt))
+
+    -- An outer release has the latest acquire of its lock, which is earlier.
+    pub release_match : kind_code k ≡ 3
+        → (get_or sections.acquires l 0 ≤ e) × (get_or sections.acquires l 0 ≡ marked_before σ (e + 1) e)
+    release_match a =
+        let t : T (is_release σ e) = rw (release a) tt in
+        let b = release_lock a in
+        let latest : get_or sections.acquires l 0
+        ≡ last_before e (λ f. is_acquire σ f && eqb (object σ e) (object σ f)) = rw is-object.1
+        (u.before.acquire.at (object σ e) (omega (arith, is-object, b, u.before.acquires_long))) in
+        let opened = opened_acquire σ u.sound e u.event t in (
+          rw latest (omega (arith, opened.1)),
+          rw (add-one e) (marked_release σ u.sound e u.event t latest),
+        )
+
+    -- ---- what is kept
+
+    -- With its operation and object.
+    pub coming : {op : ℕ} → op ≡ (at σ e).op → Coming σ e op l sections.depths
+    coming q = record {
+      sound = u.sound;
+      event = u.event;
+      op_is = (omega (arith, u.kind_is.op_lt), q);
+      object_is = is-object.1;
+      depths_are = u.before.depth;
+    }
+
+    unacquired : kind_code k ≢ 2 → LatestEvents (is_acquire σ) (object σ) (e + 1) sections.acquires
+    unacquired d =
         rw (add-one e)
-        (matches_release σ u.sound e table m u.event (no_acquire (omega arith)) (rw (release a) tt) i
-        (get_or acquires l 0)
-        (rw is-object.1 (z.at (object σ e) (omega (arith, lock_bound (omega arith) (omega arith))))))
+        (latest_keep (is_acquire σ) (object σ) e sections.acquires u.before.acquire (no_acquire d))
 
-    -- An acquire is the latest of its lock.
-    pub acquire_latest : k ≡ 2 → LatestEvents (is_acquire σ) (object σ) (e + 1) (set acquires l e)
-    acquire_latest a =
-        rw (add-one e, is-object.1)
-        (latest-set (is_acquire σ) (object σ) e acquires z (rw (acquire a) tt)
-        (omega (arith, lock_bound (omega arith) (omega arith))))
+    unlocked : kind_code k ≢ 2 → kind_code k ≢ 3 → Locksets σ (e + 1) sections.locksets
+    unlocked c d =
+        rw (add-one e)
+        (locksets_access σ e sections.locksets (no_acquire c) (no_release d) u.before.lockset)
 
-    -- Another event changes no latest acquire.
-    pub no_acquire_latest : k ≢ 2 → LatestEvents (is_acquire σ) (object σ) (e + 1) acquires
-    no_acquire_latest d = rw (add-one e) (latest_keep (is_acquire σ) (object σ) e acquires z (no_acquire d))
+    -- A read or a write changes nothing of it,
+    pub access_noted : kind_code k ≢ 2 → kind_code k ≢ 3 → kind_code k ≢ uncounted_kind
+        → OpenBefore σ (e + 1) sections
+    access_noted c d n = record {
+      depth = let q = op_is n in access_depths (coming q) (omega (arith, u.kind_is.op_lt));
+      lockset = unlocked c d;
+      acquires_long = u.before.acquires_long;
+      acquire = unacquired c;
+    }
 
-  module _ (table : List ℕ) (m : Matches σ e table) (i : e < length table) where
-    -- An inner event, a start or a join is marked by its own number,
-    pub uncounted-marked : k ≡ uncounted_kind → Matches σ (e + 1) (set table e e)
-    uncounted-marked d =
-        let rule = is_uncounted-kind σ e u.kind_is (omega (arith, u.op_lt)) in
-        let uncounted = rule ∙ eq-eqb k uncounted_kind d in
-        rw (add-one e) (rw uncounted at (matches_keep σ e table m (no_release (omega arith)) i))
+    -- and a record that does not count at most the depths.
+    pub depth_noted : kind_code k ≡ uncounted_kind → {depths : List ℕ} → KeptDepths σ (e + 1) depths
+        → OpenBefore σ (e + 1)
+        (record { depths = depths; locksets = sections.locksets; acquires = sections.acquires })
+    depth_noted a z = record {
+      depth = z;
+      lockset = unlocked (omega arith) (omega arith);
+      acquires_long = u.before.acquires_long;
+      acquire = unacquired (omega arith);
+    }
 
-    -- and another one that is no release has no match yet.
-    pub no_release_matched : k ≢ 3 → k ≢ uncounted_kind → Matches σ (e + 1) (set table e 0)
-    no_release_matched d j =
-        let rule = is_uncounted-kind σ e u.kind_is (omega (arith, u.op_lt)) in
-        let counted = rule ∙ ne_eqb k uncounted_kind j in
-        rw (add-one e) (rw counted at (matches_keep σ e table m (no_release d) i))
+    module _ {t : ℕ} (is-task : (t < tasks) × (t ≡ task σ e)) where
+      -- The task of an outer acquire holds its lock, of which it is the latest one,
+      pub acquire_noted : kind_code k ≡ 2
+          → OpenBefore σ (e + 1) (record {
+            depths = sections.depths;
+            locksets = set sections.locksets t (bit_or (get_or sections.locksets t 0) (1 * 2 ^ l % 2 ^ 64));
+            acquires = set sections.acquires l e;
+          })
+      acquire_noted a =
+          let b = acquire_lock a in
+          let op = op_is (omega arith) in record {
+            depth = outer_acquire (coming op) b a (sym a ∙ code_is);
+            lockset = rw (add-one e, is-task.1, is-object.1)
+                (locksets_acquire σ e sections.locksets u.before.lockset (omega (arith, is-task)) (acquire a)
+                (omega (arith, is-object, b)));
+            acquires_long = length-set sections.acquires l e ∙ u.before.acquires_long;
+            acquire = rw (add-one e, is-object.1)
+                (latest-set (is_acquire σ) (object σ) e sections.acquires u.before.acquire
+                (rw (acquire a) tt) (omega (arith, is-object, b, u.before.acquires_long)));
+          }
+
+      -- and that of an outer release no more.
+      pub release_noted : kind_code k ≡ 3 → OpenBefore σ (e + 1) (record {
+        depths = sections.depths;
+        locksets = set sections.locksets t (bit_xor (get_or sections.locksets t 0) (1 * 2 ^ l % 2 ^ 64));
+        acquires = sections.acquires;
+      })
+      release_noted a =
+          let b = release_lock a in
+          let op = op_is (omega arith) in
+          let held = release-held σ u.sound e (rw (release a) tt) in record {
+            depth = outer_release (coming op) b a (sym a ∙ code_is);
+            lockset = rw (add-one e, is-task.1, is-object.1)
+                (locksets_release σ e sections.locksets u.before.lockset (omega (arith, is-task)) (release a)
+                (omega (arith, is-object, b)) (is_true _ held));
+            acquires_long = u.before.acquires_long;
+            acquire = unacquired (omega arith);
+          }

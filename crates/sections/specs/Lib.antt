@@ -1,2 +1,3 @@
--- The numbers of an event's kinds; the kind itself is in `laws`.
+-- The numbers of an event's kinds, and what is kept of critical sections; the kind itself is in `laws`.
 pub mod Kinds
+pub mod Kept

@@ -1,8 +1,7 @@
--- `relations::relations` meets its contract: the recording's questions, then 9, then the relations of the event.
--- Assumes nothing.
-use mathlib.Core.Path.{◌≡◌, refl, sym, ap, ◌∙◌}
+-- `relations::relations` meets its contract: the recording's questions, then 9, then the relations of the
+-- event. Assumes nothing.
+use mathlib.Core.Path.{◌≡◌, sym, ap, ◌∙◌}
 use native.Mathlib.Omega.{arith}
-use borrow.Author.Rules.{rules}
 use mathlib.Core.Logic.{⊎_elim}
 use mathlib.Core.Bool.{false}
 use Rattle.model.specs.Trace.{Trace, is_event}
@@ -11,7 +10,7 @@ use Rattle.model.specs.Calls.Check.{check}
 use Rattle.laws.specs.Answered.{event_relations}
 use Rattle.laws.proofs.Trace.{is_event_true, is_event_false}
 use Rattle.laws.proofs.Results.{passed_on, is_refused, is_passed}
-use Rattle.laws.proofs.Questions.{check_bytes, check-count, part-trace, part_length, part_accepted}
+use Rattle.laws.proofs.Questions.{check_bytes, check-count}
 use Rattle.laws.proofs.Answers.{relations_unchecked, relations_unknown, relations_answer}
 use Rattle.relations.proofs.relations.Goals as goal
 use Rattle.relations.proofs.relations.Goals.{In_ok-check, Joined-then-event-eq0}

@@ -1,5 +1,6 @@
--- `relations::Trace::related` meets its contract: the tables have the relations of each event. Assumes nothing.
-use Rattle.relations.proofs.Tabled.{related_is}
+-- `relations::Trace::related` meets its contract: the tables have the relations of each event.
+-- Assumes nothing.
+use Rattle.relations.proofs.Rows.{related_is}
 use Rattle.relations.proofs.Trace.related.Goals as goal
 
 pub returns : goal.returns

@@ -1,0 +1,18 @@
+-- `order::Latest::new` meets its contract: before event 1 there is no event. Assumes nothing.
+use Prim.Native.Nat.{ℕ}
+use mathlib.Core.Bool.{true}
+use lib.ListN.{length-replicate}
+use Rattle.model.specs.Trace.{tasks, variables, task, object, is_write}
+use Rattle.model.specs.Tasks.{is_start, target}
+use Rattle.laws.proofs.LatestEvents.{latest-start}
+use Rattle.order.proofs.Latest.new.Goals as goal
+
+pub returns : goal.returns
+returns c = λ σ. record {
+  events_long = length-replicate {A = ℕ} tasks 0;
+  event = latest-start (λ f. true) (task σ) tasks;
+  starts_long = length-replicate {A = ℕ} tasks 0;
+  start = latest-start (is_start σ) (target σ) tasks;
+  writes_long = length-replicate {A = ℕ} variables 0;
+  write = latest-start (is_write σ) (object σ) variables;
+}

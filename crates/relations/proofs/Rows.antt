@@ -1,0 +1,127 @@
+-- The rows once one event more has its own, after the last event, and one event's relations off its row.
+-- Assumes nothing.
+use Prim.Native.Nat.{ℕ, suc, ◌+◌, ◌/◌, ◌≤◌, ◌<◌}
+use mathlib.Core.Path.{◌≡◌, refl, sym, ◌∙◌}
+use mathlib.Core.Logic.{⊎_elim, ◌≢◌}
+use mathlib.Core.Bool.{false, cond, ◌&&◌}
+use mathlib.Core.List.{List}
+use native.Mathlib.Numerals.{add-one}
+use native.Mathlib.Omega.{arith}
+use lib.Count.{ones}
+use lib.Dec.{T, eqb}
+use lib.ListN.{length, set, length-set}
+use lib.Seq.{get_or-set_same, get_or-set_other}
+use Rattle.model.specs.Lists.{last_before}
+use Rattle.model.specs.Trace.{Trace, at, object, is_acquire, is_release}
+use Rattle.model.specs.Recording.{decode_all}
+use Rattle.model.specs.Relations.{predecessor, held}
+use Rattle.model.specs.Answers.{Relations}
+use Rattle.laws.specs.Answered.{event_relations}
+use Rattle.laws.specs.Order.{awaited}
+use Rattle.laws.specs.EventKinds.{marked}
+use Rattle.laws.specs.Walked.{marked_before}
+use Rattle.laws.proofs.Tests.{equal?}
+use Rattle.laws.proofs.Trace.{decode_all-length}
+use Rattle.laws.proofs.WellFormed.{WellFormed}
+use Rattle.laws.proofs.OpenAcquires.{opened_acquire}
+use Rattle.laws.proofs.Matches.{marked_keep, marked_release, marked_opened, marked_other, marked_end}
+use Rattle.laws.proofs.LatestEvents.{latest-start_of}
+use Rattle.laws.proofs.Marks.{marked_match}
+use Rattle.laws.proofs.Awaited.{writer_off}
+use Rattle.relations.specs.declared.Row.{Row}
+use Rattle.relations.specs.declared.Walk.{Walk}
+use Rattle.relations.specs.Tables.{blank, row, IsRow, Tabled, Noted, Walked}
+
+-- The row with another match.
+abbrev pub with_match : Row → ℕ → Row
+with_match r m = record { held = r.held; predecessor = r.predecessor; awaited = r.awaited; matching = m }
+
+-- It is the row for other events before, where these show that match.
+rematched : {σ : Trace} {e g f m : ℕ} {r : Row} → IsRow σ e f r → m ≡ marked_before σ g f
+    → IsRow σ g f (with_match r m)
+rematched z q = record {
+  held_is = z.held_is;
+  predecessor_is = z.predecessor_is;
+  awaited_is = z.awaited_is;
+  matching_is = q;
+}
+
+module _ {σ : Trace} {e : ℕ} {rows : List Row} (z : Noted σ e rows) (l : e < length rows) {r : Row}
+    (n : IsRow σ (e + 1) e r) where
+  -- Once event e has its row, the row of an event whose match it leaves is right.
+  row_left : (f : ℕ) → 1 ≤ f → f < e + 1 → (f < e → marked_before σ (suc e) f ≡ marked_before σ e f)
+      → IsRow σ (e + 1) f (row (set rows e r) f)
+  row_left f h k left =
+      ⊎_elim
+      (λ (q : f ≡ e). rw (q, get_or-set_same rows e r blank l) n)
+      (λ (m : f ≢ e).
+      let old = z.at f h (omega arith) in
+      rw (get_or-set_other rows e f r blank m)
+      (rematched old (old.matching_is ∙ rw (add-one e) (sym (left (omega arith))))))
+      (equal? f e)
+
+  -- An event that is no outer release leaves all of them.
+  pub row_noted : is_release σ e ≡ false → Noted σ (e + 1) (set rows e r)
+  row_noted d = record { at = λ f h k. row_left f h k (λ b. marked_keep σ e f b d) }
+
+  -- An outer release is also the match of its acquire.
+  pub release_noted : WellFormed σ → (1 ≤ e) × (e ≤ length σ) → T (is_release σ e)
+      → Noted σ (e + 1) (set (set rows e r) r.matching (with_match (row (set rows e r) r.matching) e))
+  release_noted ok i t = record { at = λ f h k. ⊎_elim (acquire f) (other f h k) (equal? f r.matching) }
+    where
+      latest : r.matching ≡ last_before e (λ f. is_acquire σ f && eqb (object σ e) (object σ f))
+      latest =
+          let q : r.matching ≡ marked_before σ (suc e) e = rw (add-one e) at n.matching_is in
+          q ∙ sym (marked_release σ ok e i t refl)
+
+      opened : (r.matching ≢ 0) × (r.matching < e) × T (is_acquire σ r.matching)
+      opened = rw latest (opened_acquire σ ok e i t)
+
+      closed : Row
+      closed = with_match (row (set rows e r) r.matching) e
+
+      acquire : (f : ℕ) → f ≡ r.matching → IsRow σ (e + 1) f (row (set (set rows e r) r.matching closed) f)
+      acquire f q =
+          let old = z.at r.matching (omega (arith, opened)) (omega (arith, opened)) in
+          rw (
+            q,
+            get_or-set_same (set rows e r) r.matching closed blank
+                (omega (arith, opened, length-set rows e r)),
+            get_or-set_other rows e r.matching r blank (omega (arith, opened)),
+          )
+          (rematched old (rw (add-one e) (sym (marked_opened σ ok e i t latest))))
+
+      other : (f : ℕ) → 1 ≤ f → f < e + 1 → f ≢ r.matching
+          → IsRow σ (e + 1) f (row (set (set rows e r) r.matching closed) f)
+      other f h k x =
+          rw (get_or-set_other (set rows e r) r.matching f closed blank x)
+          (row_left f h k (λ b. marked_other σ ok e i t latest f b x))
+
+-- After the last event each row has the relations of its event.
+pub noted_end : (b : List ℕ) (e : ℕ) {rows : List Row} {walk : Walk} → Noted (decode_all b) e rows
+    → Walked (decode_all b) e walk → e ≤ length b / 2 + 1 → length b / 2 < e
+    → Tabled (decode_all b) (record { rows = rows; starts = walk.latest.starts })
+noted_end b e {walk = walk} z w h k = record {
+  held_at = λ f i j. (z.at f i (omega (arith, last))).held_is;
+  predecessor_at = λ f i j. (z.at f i (omega (arith, last))).predecessor_is;
+  start_at = λ t i.
+      let start = w.latest.start in
+      let long = w.latest.starts_long in
+      rw last at (latest-start_of (decode_all b) e walk.latest.starts start t (omega (arith, long)));
+  awaited_at = λ f i j. (z.at f i (omega (arith, last))).awaited_is;
+  matching_at = λ f i j. (rw last at (z.at f i (omega (arith, last))).matching_is)
+      ∙ marked_end (decode_all b) f;
+}
+  where
+    last : e ≡ suc (length (decode_all b))
+    last = omega (arith, decode_all-length b)
+
+-- The relations of an event, off what the tables have of it.
+pub related_is : (σ : Trace) (e : ℕ) → 1 ≤ e → {h p a m op w r c n : ℕ} → h ≡ held σ e → p ≡ predecessor σ e
+    → a ≡ awaited σ e → m ≡ marked σ e → op ≡ (at σ e).op → w ≡ cond (eqb op 0) a 0 → r ≡ cond (eqb m e) 0 m
+    → c ≡ ones h → n ≡ p
+    → ◌≡◌ {A = Relations}
+    (record { refusal = 0; event = 0; held = h; locks = c; matching = r; writer = w; predecessor = n })
+    (event_relations σ e)
+related_is σ e h q p a m o w r c n =
+    rw (n, c, w, r, q, p, a, m, o, ← (marked_match σ e h), ← (writer_off σ e))

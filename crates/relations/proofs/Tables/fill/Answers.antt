@@ -1,0 +1,17 @@
+-- `relations::Tables::fill` meets its contract: before each event the earlier ones are noted. Assumes nothing.
+use native.Mathlib.Omega.{arith}
+use Rattle.model.specs.Recording.{decode_all}
+use Rattle.relations.proofs.Rows.{noted_end}
+use Rattle.relations.proofs.Tables.fill.Goals as goal
+
+pub loop-e-init : goal.loop-e-init
+loop-e-init c =
+    let σ = decode_all c.args.records.now in (
+      record { section = c.new.ensures σ; latest = c.new-2.ensures σ },
+      record { at = λ f h k. absurd (omega arith) },
+    )
+
+pub returns : goal.returns
+returns c =
+    let (walked, noted) = c.loop-e.invariant in
+    noted_end _ _ noted walked (omega (arith, c.loop-e.auto.e-end)) (omega (arith, c.loop-e-test.false))

@@ -1,0 +1,68 @@
+-- `sections::OpenSections::kind_of` meets its contract: the held locks decide on an acquire, and the depth of
+-- its lock on a release. Assumes nothing.
+use Prim.Native.Nat.{ℕ, ◌<◌}
+use mathlib.Core.Path.{◌≡◌, refl, sym, ◌∙◌}
+use native.Mathlib.Omega.{arith}
+use Rattle.model.specs.Trace.{at}
+use Rattle.model.specs.Recording.{decode_all}
+use Rattle.laws.proofs.Trace.{record-event}
+use Rattle.laws.proofs.Questions.{events_sound}
+use Rattle.laws.proofs.EventKinds.{kind_access}
+use Rattle.sections.specs.declared.Kind.TheVariants.{Read, Write, Acquire, Release, Uncounted}
+use Rattle.sections.proofs.KindOf.{Coming, of_kind, task_kind, enter_outer, enter_inner, leave_outer}
+use Rattle.sections.proofs.KindOf.{leave_inner}
+use Rattle.sections.proofs.OpenSections.kind_of.Goals as goal
+use Rattle.sections.proofs.OpenSections.kind_of.Goals.{After-operation}
+
+-- The event with its operation and object.
+coming : (c : goal.After-operation) {op : ℕ} → op ≡ (at (decode_all c.args.records.now) c.args.e).op → op < 4
+    → Coming (decode_all c.args.records.now) c.args.e op c.object-l.result c.args.self.now.depths
+coming c is small = record {
+  sound = events_sound c.args.records.now c.requires.2;
+  event = record-event c.args.records.now c.args.e (c.requires.0, c.requires.1);
+  op_is = (small, is);
+  object_is = c.object-l.ensures.1;
+  depths_are = c.requires.3.depth;
+}
+
+pub returns-in-Read : goal.returns-in-Read
+returns-in-Read c =
+    let u = coming (goal.at.returns-in-Read c).After-operation c.in-Read.ensures (omega arith) in
+    of_kind u Read (kind_access _ c.args.e c.in-Read.ensures (omega arith))
+
+pub returns-in-Write : goal.returns-in-Write
+returns-in-Write c =
+    let u = coming (goal.at.returns-in-Write c).After-operation c.in-Write.ensures (omega arith) in
+    of_kind u Write (kind_access _ c.args.e c.in-Write.ensures (omega arith))
+
+pub returns-then-l-ge64 : goal.returns-then-l-ge64
+returns-then-l-ge64 c =
+    let u = coming (goal.at.returns-then-l-ge64 c).After-operation c.in-Acquire.ensures (omega arith) in
+    of_kind u Uncounted (task_kind u (omega arith) c.if-l-ge64.true)
+
+pub returns-then-not-in_mask : goal.returns-then-not-in_mask
+returns-then-not-in_mask c =
+    let u = coming (goal.at.returns-then-not-in_mask c).After-operation c.in-Acquire.ensures (omega arith) in
+    of_kind u Acquire (enter_outer u c.if-l-ge64.false refl
+    (rw c.held_locks.ensures at (sym c.in_mask.ensures ∙ c.if-not-in_mask.true))).0
+
+pub returns-else-not-in_mask : goal.returns-else-not-in_mask
+returns-else-not-in_mask c =
+    let u = coming (goal.at.returns-else-not-in_mask c).After-operation c.in-Acquire.ensures (omega arith) in
+    of_kind u Uncounted (enter_inner u c.if-l-ge64.false refl
+    (rw c.held_locks.ensures at (sym c.in_mask.ensures ∙ c.if-not-in_mask.false))).0
+
+pub returns-then-l-ge64-2 : goal.returns-then-l-ge64-2
+returns-then-l-ge64-2 c =
+    let u = coming (goal.at.returns-then-l-ge64-2 c).After-operation c.in-Release.ensures (omega arith) in
+    of_kind u Uncounted (task_kind u (omega arith) c.if-l-ge64-2.true)
+
+pub returns-then-self-l-eq1 : goal.returns-then-self-l-eq1
+returns-then-self-l-eq1 c =
+    let u = coming (goal.at.returns-then-self-l-eq1 c).After-operation c.in-Release.ensures (omega arith) in
+    of_kind u Release (leave_outer u c.if-l-ge64-2.false refl c.if-self-l-eq1.true).0
+
+pub returns-else-self-l-eq1 : goal.returns-else-self-l-eq1
+returns-else-self-l-eq1 c =
+    let u = coming (goal.at.returns-else-self-l-eq1 c).After-operation c.in-Release.ensures (omega arith) in
+    of_kind u Uncounted (leave_inner u c.if-l-ge64-2.false refl c.if-self-l-eq1.false).0
