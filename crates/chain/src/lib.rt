@@ -4,8 +4,6 @@
 
 mod path;
 
-pub use path::Path;
-
 ghost use Rattle.std.specs.Prelude.{ℕ, suc, ◌*◌, ◌<◌, ◌≤◌, ◌≡◌, ◌≢◌, List, [], ◌∷◌, ◌++◌, T, length};
 ghost use Rattle.std.specs.Prelude.{Some, None};
 ghost use Rattle.model.specs.Lists.{all};
@@ -18,6 +16,7 @@ ghost use Rattle.chain.specs.Attempted.{chain_of, Reusable, Attempted, excluded_
 
 use deadlock::Chain;
 use frontier::Frontier;
+pub use path::Path;
 use relations::Trace;
 
 // What is found of an acquire after the events of a path: with them it is a deadlock so far; it leads
@@ -31,6 +30,7 @@ pub enum Trial {
 }
 
 // The frontier of the last attempt at one event more of a path, with the task of this event, if there was one.
+#[derive(Drop)]
 pub struct Grown {
     pub frontier: Frontier,
     of: Option<u8>,

@@ -39,7 +39,7 @@ impl Path {
         requires { (self.now.len < largest_pattern) × (1 ≤ e) × (2 * e ≤ length trace.now.records.now) }
         ensures len { result.len ≡ self.now.len + 1 }
         ensures chain { of_events (take result.len result.events) result.chain
-            ≡ add (signature (decode_all trace.now.records.now)) 
+            ≡ add (signature (decode_all trace.now.records.now))
             (of_events (take self.now.len self.now.events) self.now.chain) e }
     {
         let mut events = self.events;

@@ -27,8 +27,11 @@ avoided : (c : After-avoids) → let a = c.args in
     c.avoids.result
     ≡ all (λ f. not (leb f (get_or c.grow.new.self.frontier.front (task (decode_all a.trace.now.records.now) f) 0)))
     (chain_of a.path.now).events
-avoided c = rw c.events-events.ensures.0 at (c.avoids.ensures c.events-events.result.now (refl, λ i e h k.
-    search rules))
+avoided c = rw c.events-events.ensures.0 at (c.avoids.ensures c.events-events.result.now (
+  refl,
+  λ i e h k.
+      search rules,
+))
 
 pub returns-then-not-lock_in_mask : goal.returns-then-not-lock_in_mask
 returns-then-not-lock_in_mask c =
