@@ -54,7 +54,8 @@ module _ (σ : Trace) (k : ℕ) (c : Chain) (e : ℕ) (old : Grown) where
     where
       unclosed : has_bit (held σ c.first) (object σ e) ≡ false
       unclosed =
-          is_false (has_bit (held σ c.first) (object σ e)) (not_T (has_bit (held σ c.first) (object σ e)) (λ t.
+          is_false (has_bit (held σ c.first) (object σ e))
+          (not_T (has_bit (held σ c.first) (object σ e)) (λ t.
           T_not (has_bit (get_or back k 0) (object σ e)) (rw h tt) (z.covers k (omega arith) (object σ e) t)))
 
   module _ (new : Grown) (own : new.of ≡ Some (task σ e)) (inside : T (all (is_event σ) c.events))
@@ -88,8 +89,8 @@ module _ (σ : Trace) (k : ℕ) (c : Chain) (e : ℕ) (old : Grown) where
             let (x, i, n) = all_fails apart c.events h in
             let event = (is_event_iff σ x).0 ((all_iff (is_event σ) c.events).0 inside x i) in
             not_deadlock_later σ c.events e f x
-            (events_inside σ (c.events ++ f ∷ []) (path_more σ c.events f inside (omega arith) m)) here.0 l (sym
-            s) i
+            (events_inside σ (c.events ++ f ∷ []) (path_more σ c.events f inside (omega arith) m)) here.0 l
+            (sym s) i
             (rw (
               z.members x event.0 event.1,
               not-false (leb x (get_or new.frontier.front (task σ x) 0)) n,
@@ -130,8 +131,8 @@ kept? (Some u) t = ⊎_elim (λ (q : u ≡ t). inl (ap Some q)) (λ (d : u ≢ t
 module _ (σ : Trace) (e : ℕ) (frontier base : Frontier) (old : Grown)
     (kept : old.of ≡ Some (task σ e) → base ≡ old.frontier)
     (copied : old.of ≢ Some (task σ e) → base ≡ frontier) where
-  -- The one that is kept or copied, extended by the predecessor of e, is that of the predecessors of the events
-  -- and e.
+  -- The one that is kept or copied, extended by the predecessor of e, is that of the predecessors of the
+  -- events and e.
   pub grow_reaches : WellFormed σ → (front latest : List ℕ) → 1 ≤ e → e ≤ length σ
       → Advanced σ (wanted σ base.front (predecessor σ e)) front latest → (p : List ℕ)
       → T (all (is_event σ) p) → Before σ p frontier.front frontier.latest → Reusable σ p e old

@@ -29,7 +29,8 @@ pub enum Trial {
     Skipped,
 }
 
-// The frontier of the last attempt at one event more of a path, with the task of this event, if there was one.
+// The frontier of the last attempt at one event more of a path, with the task of this event, if there was
+// one.
 #[derive(Drop)]
 pub struct Grown {
     pub frontier: Frontier,
@@ -64,8 +65,8 @@ impl Grown {
         self.of = own;
     }
 
-    // Grows the frontier to that of the predecessors of some events and e: from that of the events, or where the
-    // last attempt was at an event of the task of e from that of the events and this one.
+    // Grows the frontier to that of the predecessors of some events and e: from that of the events, or where
+    // the last attempt was at an event of the task of e from that of the events and this one.
     fn grow(&mut self, trace: &Trace, frontier: &Frontier, e: usize)
         requires { Settled (decode_all trace.now.records.now) frontier.now.front frontier.now.front
             frontier.now.latest
@@ -103,7 +104,8 @@ impl Grown {
             × Reusable (decode_all trace.now.records.now) (chain_of path.now).events e self.old
             × (1 ≤ e) × (2 * e ≤ length trace.now.records.now)
             × T (is_acquire (decode_all trace.now.records.now) e) }
-        ensures { Attempted (decode_all trace.now.records.now) k (chain_of path.now) e result self.old self.new }
+        ensures { Attempted (decode_all trace.now.records.now) k (chain_of path.now) e result self.old
+            self.new }
     {
         if !deadlock::lock_in_mask(trace, back[k], e) {
             return Trial::Skipped;
@@ -120,7 +122,8 @@ impl Grown {
     }
 }
 
-// The chain whose later events are sought after event e was attempted: where the task of e fails, with this task.
+// The chain whose later events are sought after event e was attempted: where the task of e fails, with this
+// task among its own.
 pub fn exclude(trace: &Trace, chain: &Chain, met: Trial, e: usize) -> Chain
     requires { (1 ≤ e) × (2 * e ≤ length trace.now.records.now) }
     ensures { result ≡ excluded_after (decode_all trace.now.records.now) chain.now met e }

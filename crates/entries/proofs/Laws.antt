@@ -112,7 +112,8 @@ module _ (room : ℕ) (out p : List ℕ) (f : Found) where
             };
       }
 
-  -- and one whose entry does: it is counted, and written behind those before where all of them fit the output.
+  -- and one whose entry does: it is counted, and written behind those before where all of them fit the
+  -- output.
   pub adds_one : (out' : List ℕ) → length out' ≡ length out
       → (f.bytes + (2 * length p + 2) ≤ length out → out' ≡ sets out f.bytes (encode (length p ∷ p)))
       → Adds room (p ∷ []) out out' f

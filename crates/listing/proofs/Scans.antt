@@ -37,8 +37,9 @@ use Rattle.listing.specs.Open.{completions}
 abbrev pub passes : Trace → Kept → ℕ → Bool
 passes σ x f = fits (signature σ) (of_events [] x) f
 
--- The scan of the events that may follow a chain has come to a place: what the events to there add has been taken,
--- and of the later ones those that x does not pass, the chain with the tasks that are excluded, add nothing.
+-- The scan of the events that may follow a chain has come to a place: what the events to there add has been
+-- taken, and of the later ones those that x does not pass, the chain with the tasks that are excluded, add
+-- nothing.
 pub record Scanning (σ : Trace) (k : ℕ) (c : Chain) (room : ℕ) (x : Kept) (at : ℕ) (out₀ out : List ℕ)
     (f₀ f : Found) : Type 0 where
   pub same : (x.last ≡ c.last) × (x.guards ≡ c.guards)
@@ -66,7 +67,8 @@ scanning-start {σ} {k} {p} {x} {room} inside {out} {f} r = record {
 module _ {σ : Trace} {k : ℕ} {c : Chain} {room : ℕ} {x : Kept} {at : ℕ} {out₀ out : List ℕ} {f₀ f : Found}
     (z : Scanning σ k c room x at out₀ out f₀ f) where
   -- Where none is left that passes, all is taken.
-  pub scanning_end : First (passes σ x) (length σ) at 0 → Adds room (extensions σ (suc k) c) out₀ out f₀ (Ok f)
+  pub scanning_end : First (passes σ x) (length σ) at 0
+      → Adds room (extensions σ (suc k) c) out₀ out f₀ (Ok f)
   scanning_end y =
       rw (
         extensions-suc σ k c,

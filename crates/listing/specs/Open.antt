@@ -10,8 +10,8 @@ use Rattle.frontier.specs.declared.Frontier.{Frontier}
 use Rattle.chain.specs.declared.path.Path.{Path}
 use Rattle.chain.specs.Attempted.{chain_of}
 
--- The chain is one of the trace: its events, first and last are events, the last one acquires, and the masks have
--- the first one's task and held locks.
+-- The chain is one of the trace: its events, first and last are events, the last one acquires, and the masks
+-- have the first one's task and held locks.
 pub record Traced (σ : Trace) (c : Chain) : Type 0 where
   pub events : T (all (is_event σ) c.events)
   pub first_event : (1 ≤ c.first) × (c.first ≤ length σ)
@@ -27,7 +27,7 @@ pub record Open (σ : Trace) (first largest : ℕ) (path : Path) (left : ℕ) (f
   pub traced : Traced σ (chain_of path)
   pub before : Before σ (chain_of path).events frontier.front frontier.latest
 
--- The deadlocks that begin with a chain that is one so far and have at most k events more: it alone where it is
--- complete, and otherwise what extends it.
+-- The deadlocks that begin with a chain that is one so far and have at most k events more: it alone where it
+-- is complete, and otherwise what extends it.
 abbrev pub completions : Trace → ℕ → Chain → List (List ℕ)
 completions σ k c = cond (closes (signature σ) c) (c.events ∷ []) (extensions σ k c)

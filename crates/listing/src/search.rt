@@ -17,8 +17,8 @@ use entries::{Found, Full};
 use frontier::Frontier;
 use pruning::Links;
 
-// A search for the deadlocks of at most `largest` events that begin with one event: the links of the recording's
-// events, the locks that lead back to the first one, and the room for entries.
+// A search for the deadlocks of at most `largest` events that begin with one event: the links of the
+// recording's events, the first one, the locks that lead back to it, and the room for entries.
 #[derive(Drop)]
 struct Search<'a> {
     links: &'a Links<'a>,
@@ -41,8 +41,8 @@ fn descend(
     out: &mut [u8],
     found: Found,
 ) -> Result<Found, Full>
-    requires { Open (decode_all search.now.links.now.trace.now.records.now) search.now.first search.now.largest
-        path.now k frontier.now
+    requires { Open (decode_all search.now.links.now.trace.now.records.now) search.now.first
+        search.now.largest path.now k frontier.now
         × Roomy search.now.room found }
     ensures roomy { IfOk result (Roomy search.now.room) }
     ensures adds { Adds search.now.room (completions (decode_all search.now.links.now.trace.now.records.now) k
@@ -57,8 +57,8 @@ fn descend(
     extend(search, path, k, frontier, out, found)
 }
 
-// Extends a path by at most `left` later events, in the listing's order, and takes each pattern that it finds,
-// until these exceed the room.
+// Extends a path by at most `left` later events, in the listing's order, and takes each pattern that it
+// finds, until these exceed the room.
 #[cycle(descend_extend)]
 fn extend(
     search: &Search,
@@ -68,8 +68,8 @@ fn extend(
     out: &mut [u8],
     found: Found,
 ) -> Result<Found, Full>
-    requires { Open (decode_all search.now.links.now.trace.now.records.now) search.now.first search.now.largest
-        path.now left frontier.now
+    requires { Open (decode_all search.now.links.now.trace.now.records.now) search.now.first
+        search.now.largest path.now left frontier.now
         × (1 ≤ left) × Roomy search.now.room found }
     ensures roomy { IfOk result (Roomy search.now.room) }
     ensures adds { Adds search.now.room

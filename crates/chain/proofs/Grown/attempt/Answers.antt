@@ -23,10 +23,10 @@ grown : (c : After-grow) → let a = c.args in
 grown c = c.grow.ensures.before _ c.requires.1 c.requires.3 c.requires.4
 
 -- It avoids the events of the path, or does not.
-avoided : (c : After-avoids) → let a = c.args in
+avoided : (c : After-avoids) → let σ = decode_all c.args.trace.now.records.now in
     c.avoids.result
-    ≡ all (λ f. not (leb f (get_or c.grow.new.self.frontier.front (task (decode_all a.trace.now.records.now) f) 0)))
-    (chain_of a.path.now).events
+    ≡ all (λ f. not (leb f (get_or c.grow.new.self.frontier.front (task σ f) 0)))
+    (chain_of c.args.path.now).events
 avoided c = rw c.events-events.ensures.0 at (c.avoids.ensures c.events-events.result.now (
   refl,
   λ i e h k.
@@ -49,8 +49,8 @@ avoids-requires-clause-events c = λ i e h k.
 pub returns-then-not-avoids : goal.returns-then-not-avoids
 returns-then-not-avoids c =
     let a = c.args in
-    attempted_met (decode_all a.trace.now.records.now) a.k (chain_of a.path.now) a.e a.self.now c.grow.new.self
-    c.grow.ensures.own c.requires.1 (record-event _ a.e (c.requires.5, c.requires.6))
+    attempted_met (decode_all a.trace.now.records.now) a.k (chain_of a.path.now) a.e a.self.now
+    c.grow.new.self c.grow.ensures.own c.requires.1 (record-event _ a.e (c.requires.5, c.requires.6))
     (grown (goal.at.returns-then-not-avoids c).After-grow)
     (sym (avoided (goal.at.returns-then-not-avoids c).After-avoids) ∙ c.if-not-avoids.true)
 

@@ -106,7 +106,9 @@ extend-loop-e-preserved-in-Success t c =
     let done = c.in_ok-taken-in-Success.ensures in record {
       scanning = scanning-next z d y c.requires.0.traced.rooted tried c.exclude-chain.ensures
           (scanning_adds z d y tried c.in-Success.is _ c.with.ensures.chain done.adds) done.roomy;
-      kept = reusable_next (scanning_event z d y).0 (reusable_later (y.passes d).0 c.loop-e.invariant.kept) tried;
+      kept =
+          reusable_next (scanning_event z d y).0 (reusable_later (y.passes d).0 c.loop-e.invariant.kept)
+          tried;
     }
 
 pub extend-loop-e-preserved : goal.extend-loop-e-preserved
@@ -117,7 +119,9 @@ extend-loop-e-preserved t c =
     let rooted = c.requires.0.traced.rooted in record {
       scanning = scanning-next z d y rooted tried c.exclude-chain.ensures
           (scanning_drops z d y tried c.in_default-met.not-Success rooted) z.roomy;
-      kept = reusable_next (scanning_event z d y).0 (reusable_later (y.passes d).0 c.loop-e.invariant.kept) tried;
+      kept =
+          reusable_next (scanning_event z d y).0 (reusable_later (y.passes d).0 c.loop-e.invariant.kept)
+          tried;
     }
 
 pub extend-returns-clause-adds : goal.extend-returns-clause-adds

@@ -20,7 +20,8 @@ abbrev pub invariant-extend-loop-e : goal.invariant-extend-loop-e
 invariant-extend-loop-e l = record {
   scanning : Scanning (decode_all l.search.links.now.trace.now.records.now) (l.left - 1) (chain_of l.path)
       l.search.room l.chain l.at l.initial.out l.out l.initial.taken l.taken;
-  kept : Reusable (decode_all l.search.links.now.trace.now.records.now) (chain_of l.path).events (suc l.at) l.grown;
+  kept : Reusable (decode_all l.search.links.now.trace.now.records.now) (chain_of l.path).events (suc l.at)
+      l.grown;
 }
 
 -- The events after those.

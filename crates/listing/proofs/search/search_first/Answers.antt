@@ -27,7 +27,8 @@ pub returns-then-is_none-clause-adds : goal.returns-then-is_none-clause-adds
 returns-then-is_none-clause-adds c =
     let a = c.args in
     rw (beginning_nowhere (decode_all a.links.now.trace.now.records.now) a.a a.largest c.requires.3
-    c.requires.4 (unreturned _ _ _ c.ways_back.result c.if-is_none.ensures c.ways_back.ensures)) (adds_none a.room _ a.found)
+    c.requires.4 (unreturned _ _ _ c.ways_back.result c.if-is_none.ensures c.ways_back.ensures))
+    (adds_none a.room _ a.found)
 
 pub returns-in-None-clause-adds : goal.returns-in-None-clause-adds
 returns-in-None-clause-adds c =
