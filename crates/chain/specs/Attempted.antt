@@ -1,5 +1,5 @@
--- One event more on a chain: what is decided of it.
-use Rattle.std.specs.Prelude.{ℕ, ◌^◌, ◌≤◌, ◌<◌, ◌≡◌, ◌≢◌, true, List, [], ◌∷◌, ◌++◌, Option, Some, length}
+-- Paths of the search, and one event more: what is decided of it.
+use Rattle.std.specs.Prelude.{ℕ, ◌^◌, ◌≤◌, ◌<◌, ◌≡◌, ◌≢◌, true, List, [], ◌∷◌, ◌++◌, Some, length, take}
 use Rattle.std.specs.Int.Bits.{bit_or}
 use Rattle.model.specs.Trace.{Trace, task}
 use Rattle.model.specs.Pattern.{is_deadlock}
@@ -7,42 +7,41 @@ use Rattle.laws.specs.Chain.{Chain}
 use Rattle.laws.specs.Walk.{branch}
 use Rattle.laws.specs.Returning.{Rooted}
 use Rattle.laws.specs.Frontier.{Before}
-use Rattle.frontier.specs.declared.Frontier.{Frontier}
+use Rattle.deadlock.specs.declared.Chain.{Chain as Kept}
+use Rattle.deadlock.specs.Judged.{of_events}
+use Rattle.chain.specs.declared.path.Path.{Path}
+use Rattle.chain.specs.declared.Grown.{Grown}
 use Rattle.chain.specs.declared.Trial.{Trial}
 use Rattle.chain.specs.declared.Trial.TheVariants.{Success, TaskFailure, Skipped}
 
--- The chain has these events, and its first one's task and held locks in its masks.
-pub record Along (σ : Trace) (p : List ℕ) (first : ℕ) (c : Chain) : Type 0 where
-  pub events : c.events ≡ p
-  pub begins : c.first ≡ first
-  pub rooted : Rooted σ c
+-- The chain of a path, with its events.
+abbrev pub chain_of : Path → Chain
+chain_of path = of_events (take path.len path.events) path.chain
 
--- The frontiers from which that of the predecessors of p and e may be reached: that of p, and where `of` is
--- the task of e that of p and an earlier event of this task.
-pub record Reusable (σ : Trace) (p : List ℕ) (of : Option ℕ) (e : ℕ) (frontier grown : Frontier)
-    : Type 0 where
-  pub before : Before σ p frontier.front frontier.latest
-  pub again : of ≡ Some (task σ e)
-      → (d : ℕ) × (1 ≤ d) × (d < e) × (task σ d ≡ task σ e) × Before σ (p ++ d ∷ []) grown.front grown.latest
+-- The frontier of the last attempt, if there was one, is that of the predecessors of the events p and of an
+-- event before e, whose task is the one noted.
+pub record Reusable (σ : Trace) (p : List ℕ) (e : ℕ) (grown : Grown) : Type 0 where
+  pub again : (t : ℕ) → grown.of ≡ Some t → (d : ℕ) × (1 ≤ d) × (d < e) × (task σ d ≡ t)
+      × Before σ (p ++ d ∷ []) grown.frontier.front grown.frontier.latest
 
--- Event e after the events p: with success they make a deadlock so far; otherwise e adds nothing, and where
--- its task fails no later event of the task does. The frontier is that of their predecessors, unless e is
--- skipped.
-pub record Attempted (σ : Trace) (k : ℕ) (p : List ℕ) (first e : ℕ) (r : Trial) (grown : Frontier)
-    : Type 0 where
-  pub deadlock : r ≡ Success → is_deadlock σ (p ++ e ∷ []) ≡ true
-  pub grows : r ≢ Skipped → Before σ (p ++ e ∷ []) grown.front grown.latest
-  pub dropped : r ≢ Success → (c : Chain) → Along σ p first c → branch σ k c e ≡ []
-  pub later : r ≡ TaskFailure → (c : Chain) → Along σ p first c → (f : ℕ) → e < f → f ≤ length σ
-      → task σ f ≡ task σ e → branch σ k c f ≡ []
+-- Event e after a chain: with success they make a deadlock so far; otherwise e adds nothing, and where its
+-- task fails no later event of the task does. The frontier is that of their predecessors, and its task that of
+-- e, unless e is skipped.
+pub record Attempted (σ : Trace) (k : ℕ) (c : Chain) (e : ℕ) (r : Trial) (old new : Grown) : Type 0 where
+  pub deadlock : r ≡ Success → is_deadlock σ (c.events ++ e ∷ []) ≡ true
+  pub grows : r ≢ Skipped → Before σ (c.events ++ e ∷ []) new.frontier.front new.frontier.latest
+  pub own : r ≢ Skipped → new.of ≡ Some (task σ e)
+  pub unchanged : r ≡ Skipped → new ≡ old
+  pub dropped : r ≢ Success → Rooted σ c → branch σ k c e ≡ []
+  pub later : r ≡ TaskFailure → Rooted σ c → (f : ℕ) → e < f → f ≤ length σ → task σ f ≡ task σ e
+      → branch σ k c f ≡ []
 
--- The tasks whose later events are passed over, after an attempt at event e: that of e too, where its task
--- fails.
-abbrev pub excluded_after : Trace → ℕ → Trial → ℕ → ℕ
-excluded_after σ excluded TaskFailure e = bit_or excluded (2 ^ (task σ e))
-excluded_after σ excluded _ e = excluded
-
--- The task whose frontier is kept, if any, after an attempt at event e: that of e, unless e is skipped.
-abbrev pub reused_after : Trace → Option ℕ → Trial → ℕ → Option ℕ
-reused_after σ of Skipped e = of
-reused_after σ of _ e = Some (task σ e)
+-- The chain whose later events are sought after an attempt at event e: with the task of e, where that fails.
+abbrev pub excluded_after : Trace → Kept → Trial → ℕ → Kept
+excluded_after σ c TaskFailure e = record {
+  first = c.first;
+  last = c.last;
+  tasks = bit_or c.tasks (2 ^ (task σ e));
+  guards = c.guards;
+}
+excluded_after σ c _ e = c

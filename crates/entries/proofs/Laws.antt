@@ -30,20 +30,15 @@ pub entries-length : (ps qs : List (List ℕ))
     → length (entries (ps ++ qs)) ≡ length (entries ps) + length (entries qs)
 entries-length ps qs = ap length (entries-append ps qs) ∙ length-append (entries ps) (entries qs)
 
--- The entry of a path's front is its size and its events,
-pub entry_of : (path : List ℕ) (size : ℕ) → size ≤ length path
-    → entries (take size path ∷ []) ≡ encode (size ∷ take size path)
-entry_of path size h =
-    append-nil (encode (length (take size path) ∷ take size path))
-    ∙ ap (λ (n : ℕ). encode (n ∷ take size path)) (length-take-le size path h)
+-- The entry of a pattern is its size and its events,
+pub entry_of : (p : List ℕ) → entries (p ∷ []) ≡ encode (length p ∷ p)
+entry_of p = append-nil (encode (length p ∷ p))
 
 -- two bytes each.
-pub entry_length : (path : List ℕ) (size : ℕ) → size ≤ length path
-    → length (entries (take size path ∷ [])) ≡ 2 * size + 2
-entry_length path size h =
-    let long = length-take-le size path h in
-    let two : 2 * length (size ∷ take size path) ≡ 2 * size + 2 = omega arith in
-    ap length (entry_of path size h) ∙ encode-length (size ∷ take size path) ∙ two
+pub entry_length : (p : List ℕ) → length (entries (p ∷ [])) ≡ 2 * length p + 2
+entry_length p =
+    let two : 2 * length (length p ∷ p) ≡ 2 * length p + 2 = omega arith in
+    ap length (entry_of p) ∙ encode-length (length p ∷ p) ∙ two
 
 -- One event more is written behind the size.
 pub entry_more : (out path : List ℕ) (i : ℕ) → i < length path
@@ -103,10 +98,9 @@ adds_over room xs ys a b f e x =
 
 -- ---- one pattern more
 
-module _ (room size : ℕ) (out path : List ℕ) (f : Found) (h : size ≤ length path) where
-  -- The front of a path, where its entry does not fit the room,
-  pub adds_full : room - f.bytes < 2 * size + 2 → (e : Full)
-      → Adds room (take size path ∷ []) out out f (Err e)
+module _ (room : ℕ) (out p : List ℕ) (f : Found) where
+  -- A pattern whose entry does not fit the room,
+  pub adds_full : room - f.bytes < 2 * length p + 2 → (e : Full) → Adds room (p ∷ []) out out f (Err e)
   adds_full r e =
       record {
         adds =
@@ -114,40 +108,32 @@ module _ (room size : ℕ) (out path : List ℕ) (f : Found) (h : size ≤ lengt
               long = t.long;
               counted = tt;
               written = tt;
-              over =
-                  omega (
-                    arith,
-                    t.counted,
-                    entry_length path size h,
-                    entries-length ps (take size path ∷ []),
-                  );
+              over = omega (arith, t.counted, entry_length p, entries-length ps (p ∷ []));
             };
       }
 
-  -- and where it fits: it is counted, and written behind those before where all of them fit the output.
+  -- and one whose entry does: it is counted, and written behind those before where all of them fit the
+  -- output.
   pub adds_one : (out' : List ℕ) → length out' ≡ length out
-      → (f.bytes + (2 * size + 2) ≤ length out
-      → out' ≡ sets out f.bytes (encode (size ∷ take size path)))
-      → Adds room (take size path ∷ []) out out' f
-      (Ok (record { patterns = f.patterns + 1; bytes = f.bytes + (2 * size + 2) }))
+      → (f.bytes + (2 * length p + 2) ≤ length out → out' ≡ sets out f.bytes (encode (length p ∷ p)))
+      → Adds room (p ∷ []) out out' f
+      (Ok (record { patterns = f.patterns + 1; bytes = f.bytes + (2 * length p + 2) }))
   adds_one out' long w =
-      let q = take size path in
-      let e = entry_length path size h in
+      let e = entry_length p in
       record {
         adds =
             λ ps out₀ t. let here : f.bytes ≡ 0 + length (entries ps) = omega (arith, t.counted) in record {
               long = long ∙ t.long;
               counted = (
-                omega (arith, t.counted, length-append ps (q ∷ [])),
-                omega (arith, e, here, entries-length ps (q ∷ [])),
+                omega (arith, t.counted, length-append ps (p ∷ [])),
+                omega (arith, e, here, entries-length ps (p ∷ [])),
               );
               written =
-                  λ fits. w (omega arith) ∙ rw (
-                    ← entry_of path size h,
+                  λ fits. w (omega arith) ∙ ap (sets out f.bytes) (sym (entry_of p)) ∙ rw (
                     t.written (omega arith),
                     here,
-                    entries-append ps (q ∷ []),
-                  ) (sets-append out₀ 0 (entries ps) (entries (q ∷ [])));
+                    entries-append ps (p ∷ []),
+                  ) (sets-append out₀ 0 (entries ps) (entries (p ∷ [])));
               over = tt;
             };
       }

@@ -2,7 +2,7 @@
 // where it fits there.
 #![tactic(auto)]
 
-ghost use Rattle.std.specs.Prelude.{◌+◌, ◌*◌, ◌<◌, ◌≤◌, ◌≡◌, [], ◌∷◌, length, take, IfOk};
+ghost use Rattle.std.specs.Prelude.{◌+◌, ◌*◌, ◌<◌, ◌≤◌, ◌≡◌, [], ◌∷◌, length, IfOk};
 ghost use Rattle.std.proofs.lemmas.List.Edits.{sets};
 ghost use Rattle.model.specs.Bytes.{encode};
 ghost use Rattle.model.specs.Pattern.{largest_pattern};
@@ -19,49 +19,46 @@ pub struct Found {
 #[derive(Clone, Copy, Debug, PartialEq, Eq)]
 pub struct Full;
 
-// Writes an entry at the front of the bytes: its size, and then its events.
-fn write_entry(out: &mut [u8], path: &[u16], size: usize)
-    requires { (size ≤ largest_pattern) × (size ≤ length path.now) × (2 * size + 2 ≤ length out.old) }
-    ensures { out.new ≡ sets out.old 0
-        (encode (size ∷ take size path.now)) }
+// Writes the entry of a pattern at the front of the bytes: its size, and then its events.
+fn write_entry(out: &mut [u8], pattern: &[u16])
+    requires { (length pattern.now ≤ largest_pattern) × (2 * length pattern.now + 2 ≤ length out.old) }
+    ensures { out.new ≡ sets out.old 0 (encode (length pattern.now ∷ pattern.now)) }
 {
-    recording::put_number(out, 0, size as u16);
-    for (i, event) in path[..size].iter().enumerate() {
+    recording::put_number(out, 0, pattern.len() as u16);
+    for (i, event) in pattern.iter().enumerate() {
         recording::put_number(out, 2 * i + 2, *event);
     }
 }
 
-// Writes an entry into the rest of the output, from a position on, where it fits there.
-fn write_rest(out: &mut [u8], at: usize, path: &[u16], size: usize)
-    requires { (size ≤ largest_pattern) × (size ≤ length path.now)
-        × (at + (2 * size + 2) < 18446744073709551616) }
-    ensures { at + (2 * size + 2) ≤ length out.old → out.new
-        ≡ sets out.old at (encode (size ∷ take size path.now)) }
+// Writes the entry of a pattern into the rest of the output, from a position on, where it fits there.
+fn write_rest(out: &mut [u8], at: usize, pattern: &[u16])
+    requires { (length pattern.now ≤ largest_pattern)
+        × (at + (2 * length pattern.now + 2) < 18446744073709551616) }
+    ensures { at + (2 * length pattern.now + 2) ≤ length out.old → out.new
+        ≡ sets out.old at (encode (length pattern.now ∷ pattern.now)) }
 {
-    if out.len() < at + (2 * size + 2) {
+    if out.len() < at + (2 * pattern.len() + 2) {
         return;
     }
-    write_entry(&mut out[at..], path, size);
+    write_entry(&mut out[at..], pattern);
 }
 
-// Takes the first `size` events of the path as a pattern: counts it and writes its entry, unless the entries
-// then exceed the room.
+// Takes a pattern: counts it and writes its entry, unless the entries then exceed the room.
 pub fn take_pattern(
     out: &mut [u8],
-    path: &[u16],
-    size: usize,
+    pattern: &[u16],
     room: usize,
     found: Found,
 ) -> Result<Found, Full>
-    requires { (size ≤ largest_pattern) × (size ≤ length path.now) × Roomy room found }
+    requires { (length pattern.now ≤ largest_pattern) × Roomy room found }
     ensures roomy { IfOk result (Roomy room) }
-    ensures adds { Adds room (take size path.now ∷ []) out.old out.new found result }
+    ensures adds { Adds room (pattern.now ∷ []) out.old out.new found result }
 {
-    let bytes = 2 * size + 2;
+    let bytes = 2 * pattern.len() + 2;
     if room - found.bytes < bytes {
         return Err(Full);
     }
-    write_rest(out, found.bytes, path, size);
+    write_rest(out, found.bytes, pattern);
     Ok(Found {
         patterns: found.patterns + 1,
         bytes: found.bytes + bytes,

@@ -2,7 +2,7 @@
 -- nowhere, and that the chains of all first events give the listing. Assumes nothing.
 use Prim.Native.Nat.{ℕ, zero, suc, ◌-◌, ◌≤◌}
 use mathlib.Core.Path.{◌≡◌, refl, sym, ◌∙◌}
-use mathlib.Core.Bool.{true, false}
+use mathlib.Core.Bool.{true, false, cond}
 use mathlib.Core.List.{[], ◌∷◌, ◌++◌}
 use lib.ListN.{length}
 use Rattle.model.specs.Lists.{from, each}
@@ -52,18 +52,13 @@ module _ (σ : Trace) where
         (λ f. decided (is_deadlock σ (c.events ++ e ∷ [])) (λ d. rw (f, d, z, x)) (λ d. rw (f, d)))
         (λ f. rw f)
 
-    module _ (f : fits (signature σ) c e ≡ true) (d : is_deadlock σ (c.events ++ e ∷ []) ≡ true) where
-      -- An event that closes the chain adds it.
-      pub branch_closes : closes (signature σ) (add (signature σ) c e) ≡ true
-          → branch σ k c e ≡ (c.events ++ e ∷ []) ∷ []
-      unfolding branch
-      branch_closes z = rw (f, d, z)
-
-      -- One that does not adds what extends the longer chain.
-      pub branch_longer : closes (signature σ) (add (signature σ) c e) ≡ false
-          → branch σ k c e ≡ extensions σ k (add (signature σ) c e)
-      unfolding branch
-      branch_longer z = rw (f, d, z)
+    -- One that fits and makes a deadlock with the chain adds the longer chain where this closes, and otherwise
+    -- what extends it.
+    pub branch_deadlock : fits (signature σ) c e ≡ true → is_deadlock σ (c.events ++ e ∷ []) ≡ true
+        → branch σ k c e ≡ cond (closes (signature σ) (add (signature σ) c e)) ((c.events ++ e ∷ []) ∷ [])
+        (extensions σ k (add (signature σ) c e))
+    unfolding branch
+    branch_deadlock f d = rw (f, d)
 
   -- ---- events that hold no lock
 

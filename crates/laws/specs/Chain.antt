@@ -63,14 +63,3 @@ module _ (σ : Trace) where
   -- The list is of events, and closes the chain.
   abbrev pub completing : Chain → List ℕ → Bool
   completing c q = all (is_event σ) q && closing c q
-
--- A chain by its first and last event and its masks; which events lie between does not matter to its tests.
-abbrev pub chain_of : ℕ → ℕ → ℕ → ℕ → Chain
-chain_of first last tasks guards = record {
-  events = [];
-  first = first;
-  last = last;
-  tasks = tasks;
-  guards =
-      guards;
-}

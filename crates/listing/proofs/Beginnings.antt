@@ -1,31 +1,26 @@
 -- The chains of one event with which the search begins, and the walk over them. Assumes nothing.
-use Prim.Native.Nat.{ℕ, suc, ◌-◌, ◌^◌, ◌≤◌}
+use Prim.Native.Nat.{ℕ, suc, ◌-◌, ◌≤◌}
 use mathlib.Core.Path.{◌≡◌, refl, ◌∙◌}
 use mathlib.Core.Logic.{◌≢◌}
 use mathlib.Core.Bool.{false}
-use mathlib.Core.List.{List, [], ◌∷◌, ◌++◌}
+use mathlib.Core.List.{List, [], ◌++◌}
 use native.Mathlib.Omega.{arith}
 use native.Mathlib.Nat.{sub-zero}
 use lib.Dec.{T}
-use Rattle.std.specs.Prelude.{Result, Ok, Err}
-use lib.Bits.{bit_or, or_zero_l}
-use lib.ListN.{length, get_or, take, set, length-set}
-use lib.Seq.{get_or-set_same, take-suc-set}
-use Rattle.model.specs.Lists.{from, each, has_bit}
-use Rattle.model.specs.Trace.{Trace, task, object, is_acquire}
-use Rattle.model.specs.Relations.{held}
+use Rattle.std.specs.Prelude.{Result, Ok, Err, Option, Some, None}
+use Rattle.std.specs.Option.{is_some}
+use lib.ListN.{length}
+use Rattle.model.specs.Lists.{from, each}
+use Rattle.model.specs.Trace.{Trace, is_acquire}
 use Rattle.model.specs.Pattern.{largest_pattern}
 use Rattle.model.specs.Listing.{deadlocks}
 use Rattle.laws.specs.Chain.{signature, start}
-use Rattle.laws.specs.Frontier.{Before}
-use Rattle.frontier.specs.declared.Frontier.{Frontier}
 use Rattle.laws.specs.Walk.{beginning}
-use Rattle.laws.specs.Returning.{Returning}
 use Rattle.entries.specs.declared.Found.{Found}
 use Rattle.entries.specs.declared.Full.{Full}
 use Rattle.entries.specs.Taken.{Taken, Adds, Roomy}
 use Rattle.entries.proofs.Laws.{taken_start, taken_over}
-use Rattle.pruning.specs.Linked.{is_nested, Link}
+use Rattle.pruning.specs.Linked.{is_nested, Link, Unreturned, WaysBack}
 use Rattle.pruning.proofs.Nested.{acquire_free}
 use Rattle.laws.proofs.Lists.{from_split}
 use Rattle.laws.proofs.Filters.{each_append}
@@ -33,47 +28,19 @@ use Rattle.laws.proofs.Firsts.{each_first, each_last}
 use Rattle.laws.proofs.Tests.{is_true, decided}
 use Rattle.laws.proofs.Extensions.{beginning_acquire, beginning-none, beginning-unheld, deadlocks-beginning}
 use Rattle.laws.proofs.Returning.{start_rooted}
-use Rattle.chain.proofs.Laws.{path_more}
-use Rattle.listing.specs.Open.{chain_at, Open}
-
-module _ (σ : Trace) (path : List ℕ) (a : ℕ) (long : length path ≡ largest_pattern) where
-  one : take 1 (set path 0 a) ≡ a ∷ []
-  one = take-suc-set path 0 a (omega (arith, long))
-
-  -- The chain of a path that begins with event a.
-  pub begin_chain : chain_at (set path 0 a) 1 (bit_or 0 (2 ^ (task σ a))) (held σ a) ≡ start (signature σ) a
-  begin_chain = λ i. record {
-    events = one i;
-    first = at i;
-    last = at i;
-    tasks = or_zero_l (2 ^ (task σ a)) i;
-    guards = held σ a;
-  }
-    where
-      at : get_or (set path 0 a) 0 0 ≡ a
-      at = get_or-set_same path 0 a 0 (omega (arith, long))
-
-  -- It is open.
-  pub begin_open : (largest : ℕ) (frontier : Frontier) → 1 ≤ a → a ≤ length σ → T (is_acquire σ a)
-      → largest ≤ largest_pattern → 2 ≤ largest → Before σ (a ∷ []) frontier.front frontier.latest
-      → Open σ (set path 0 a) 1 (largest - 1) (bit_or 0 (2 ^ (task σ a))) (held σ a) frontier
-  begin_open largest frontier h k t most least z = record {
-    long = length-set path 0 a ∙ long;
-    some = omega arith;
-    sized = omega arith;
-    events = rw one (path_more σ [] a tt h k);
-    acquires = rw (get_or-set_same path 0 a 0 (omega (arith, long))) t;
-    rooted = rw begin_chain (start_rooted σ a);
-    before = rw one z;
-  }
 
 -- An acquire whose lock does not lead back begins nothing.
-pub beginning_nowhere : (σ : Trace) (a largest : ℕ) (back : List ℕ) → T (is_acquire σ a) → 2 ≤ largest
-    → Returning σ a largest back → has_bit (get_or back (largest - 1) 0) (object σ a) ≡ false
-    → beginning σ (largest - 1) a ≡ []
-beginning_nowhere σ a largest back t h z n =
+pub beginning_nowhere : (σ : Trace) (a largest : ℕ) → T (is_acquire σ a) → 2 ≤ largest
+    → Unreturned σ a largest → beginning σ (largest - 1) a ≡ []
+beginning_nowhere σ a largest t h z =
     beginning_acquire σ (largest - 1) a (is_true (is_acquire σ a) t)
-    ∙ z.nowhere (largest - 1) (omega arith) (start (signature σ) a) refl (start_rooted σ a) n
+    ∙ z.returning.nowhere (largest - 1) (omega arith) (start (signature σ) a) refl (start_rooted σ a) z.apart
+
+-- Where no ways back are given, it does not.
+pub unreturned : (σ : Trace) (a count : ℕ) (r : Option (List ℕ)) → is_some r ≡ false → WaysBack σ a count r
+    → Unreturned σ a count
+unreturned σ a count None n z = z
+unreturned σ a count (Some back) n z = cc
 
 -- ---- the walk over the first events
 

@@ -1,6 +1,5 @@
 -- What proofs of this crate's functions cite; each file rests on those above it.
 pub mod Paths
 pub mod Scans
-pub mod Steps
 pub mod Beginnings
 pub mod Answers

@@ -1,80 +1,20 @@
--- The path of the search and its chain: one event more, and a path that is kept up to a length. Assumes
--- nothing.
-use Prim.Native.Nat.{ℕ, suc, ◌+◌, ◌-◌, ◌^◌, ◌≤◌, ◌<◌}
-use mathlib.Core.Path.{◌≡◌, sym, ap, ◌∙◌}
-use mathlib.Core.Logic.{◌≢◌}
-use mathlib.Core.Bool.{true, false}
+-- The paths of the search: one event more, and what comes of a path. Assumes nothing.
+use Prim.Native.Nat.{ℕ, ◌+◌, ◌-◌, ◌≤◌}
+use mathlib.Core.Path.{◌≡◌, sym, ap, subst, ◌∙◌}
 use mathlib.Core.List.{List, [], ◌∷◌, ◌++◌}
 use native.Mathlib.Omega.{arith}
 use lib.Dec.{T}
-use Rattle.std.specs.Prelude.{Ok}
-use lib.Bits.{bit_or}
-use lib.ListN.{length, get_or, take, set, length-set}
-use lib.Seq.{get_or-take, get_or-set_same, get_or-set_other, take-set-le, take-suc-set, take-take}
-use Rattle.model.specs.Lists.{has_bit}
-use Rattle.model.specs.Trace.{Trace, task, object, is_acquire}
-use Rattle.model.specs.Relations.{held}
-use Rattle.laws.specs.Chain.{signature, add, fits}
-use Rattle.laws.specs.Walk.{extensions, branch}
+use lib.ListN.{length}
+use Rattle.model.specs.Trace.{Trace, is_acquire}
+use Rattle.laws.specs.Chain.{Chain, signature, start, add}
+use Rattle.laws.specs.Frontier.{Before}
 use Rattle.laws.specs.Returning.{Returning}
-use Rattle.laws.proofs.Tests.{and_iff}
-use Rattle.laws.proofs.Extensions.{extensions-zero, branch_closes, branch_longer}
-use Rattle.laws.proofs.Returning.{add_rooted}
-use Rattle.chain.proofs.Laws.{path_more}
+use Rattle.laws.proofs.Returning.{start_rooted, add_rooted}
 use Rattle.frontier.specs.declared.Frontier.{Frontier}
-use Rattle.chain.specs.declared.Trial.{Trial}
-use Rattle.chain.specs.declared.Trial.TheVariants.{Success}
-use Rattle.entries.specs.declared.Found.{Found}
-use Rattle.entries.specs.Taken.{Adds}
-use Rattle.entries.proofs.Laws.{adds_none}
-use Rattle.listing.specs.Open.{chain_at, Open, Descending}
-
--- ---- a path that is kept
-
--- Paths that agree up to a length have the same chain.
-pub chain-kept : (p q : List ℕ) (len tasks guards : ℕ) → take len p ≡ take len q → 1 ≤ len
-    → chain_at p len tasks guards ≡ chain_at q len tasks guards
-chain-kept p q len tasks guards e h = λ i. record {
-  events = e i;
-  first = at 0 (omega arith) i;
-  last = at (len - 1) (omega arith) i;
-  tasks = tasks;
-  guards = guards;
-}
-  where
-    at : (j : ℕ) → j < len → get_or p j 0 ≡ get_or q j 0
-    at j l = sym (get_or-take len p j 0 l) ∙ ap (λ (x : List ℕ). get_or x j 0) e ∙ get_or-take len q j 0 l
-
--- Paths that agree up to a length agree before it.
-pub kept_less : (p q : List ℕ) (len : ℕ) → take (len + 1) p ≡ take (len + 1) q → take len p ≡ take len q
-kept_less p q len e =
-    sym (take-take len (len + 1) p (omega arith)) ∙ ap (take len) e ∙ take-take len (len + 1) q (omega arith)
-
--- ---- one event more
-
-module _ (path : List ℕ) (len e : ℕ) (inside : len < length path) where
-  -- The path keeps the events before,
-  pub path-kept : take len (set path len e) ≡ take len path
-  path-kept = take-set-le len path len e (omega arith)
-
-  -- and has the new one last.
-  pub path_longer : take (len + 1) (set path len e) ≡ take len path ++ e ∷ []
-  path_longer = let q : len + 1 ≡ suc len = omega arith in rw q (take-suc-set path len e inside)
-
-  -- Its chain has it last.
-  pub chain_longer : (σ : Trace) (tasks guards : ℕ) → 1 ≤ len
-      → chain_at (set path len e) (len + 1) (bit_or tasks (2 ^ (task σ e))) (bit_or guards (held σ e))
-      ≡ add (signature σ) (chain_at path len tasks guards) e
-  chain_longer σ tasks guards h = λ i. record {
-    events = path_longer i;
-    first = get_or-set_other path len 0 e 0 (omega arith) i;
-    last = newest i;
-    tasks = bit_or tasks (2 ^ (task σ e));
-    guards = bit_or guards (held σ e);
-  }
-    where
-      newest : get_or (set path len e) (len + 1 - 1) 0 ≡ e
-      newest = let q : len + 1 - 1 ≡ len = omega arith in rw q (get_or-set_same path len e 0 inside)
+use Rattle.chain.specs.declared.path.Path.{Path}
+use Rattle.chain.specs.Attempted.{chain_of}
+use Rattle.chain.proofs.Laws.{path_more}
+use Rattle.listing.specs.Open.{Traced, Open}
 
 -- Fewer events more.
 pub returning_fewer : {σ : Trace} {a m n : ℕ} {back : List ℕ} → n ≤ m → Returning σ a m back
@@ -86,64 +26,49 @@ returning_fewer l z = record {
   nowhere = λ i h. z.nowhere i (omega arith);
 }
 
--- ---- what comes of an event after a chain
+module _ (σ : Trace) where
+  -- The chain of one acquire is one of the trace,
+  pub traced_start : (a : ℕ) → 1 ≤ a → a ≤ length σ → T (is_acquire σ a) → Traced σ (start (signature σ) a)
+  traced_start a h k t = record {
+    events = path_more σ [] a tt h k;
+    first_event = (h, k);
+    last_event = (h, k);
+    acquires = t;
+    rooted = start_rooted σ a;
+  }
 
-module _ {σ : Trace} {path : List ℕ} {len k tasks guards e : ℕ} {met : Trial} {frontier : Frontier}
-    (z : Descending σ path len k tasks guards e met frontier) where
-  -- An event that fits is an acquire.
-  pub follows_acquire : T (is_acquire σ e)
-  follows_acquire =
-      let t : T (fits (signature σ) (chain_at path len tasks guards) e) = rw z.follows tt in
-      let s = simp and_iff at t in s.0.0.0
+  -- and so is one with an event more that fits.
+  pub traced_add : (c : Chain) (e : ℕ) → Traced σ c → 1 ≤ e → e ≤ length σ → T (is_acquire σ e)
+      → Traced σ (add (signature σ) c e)
+  traced_add c e z h k t = record {
+    events = path_more σ c.events e z.events h k;
+    first_event = z.first_event;
+    last_event = (h, k);
+    acquires = t;
+    rooted = add_rooted σ c e z.rooted;
+  }
 
-  -- Where it was dropped, nothing.
-  pub descend_dropped : met ≢ Success → (room : ℕ) (out : List ℕ) (f : Found)
-      → Adds room (branch σ k (chain_at path len tasks guards) e) out out f (Ok f)
-  descend_dropped d room out f = rw (z.dropped d) (adds_none room out f)
+  -- The path of one acquire is open.
+  pub open_start : (a largest : ℕ) (path : Path) (frontier : Frontier) → 1 ≤ a → a ≤ length σ
+      → T (is_acquire σ a) → 2 ≤ largest → path.len ≡ 1 → chain_of path ≡ start (signature σ) a
+      → Before σ (a ∷ []) frontier.front frontier.latest → Open σ a largest path (largest - 1) frontier
+  open_start a largest path frontier h k t l one is z = record {
+    begins = ap (λ (c : Chain). c.first) is;
+    sized = omega arith;
+    traced = rw is (traced_start a h k t);
+    before = subst (λ (c : Chain). Before σ c.events frontier.front frontier.latest) (sym is) z;
+  }
 
-  module _ (taken : met ≡ Success) {back : List ℕ} (b : Returning σ (get_or path 0 0) (suc k) back) where
-    -- Where it completes the chain, the pattern.
-    pub descend-completes : has_bit (get_or back 0 0) (object σ e) ≡ true
-        → branch σ k (chain_at path len tasks guards) e ≡ take (len + 1) (set path len e) ∷ []
-    descend-completes h =
-        rw (path_longer path len e (omega (arith, z.long, z.sized)))
-        (branch_closes σ k (chain_at path len tasks guards) e z.follows (z.deadlock taken)
-        (rw b.complete at h))
-
-    module _ (h : has_bit (get_or back 0 0) (object σ e) ≡ false) where
-      -- Otherwise what extends the longer chain,
-      pub descend_longer : branch σ k (chain_at path len tasks guards) e
-          ≡ extensions σ k (chain_at (set path len e) (len + 1) (bit_or tasks (2 ^ (task σ e)))
-          (bit_or guards (held σ e)))
-      descend_longer =
-          branch_longer σ k (chain_at path len tasks guards) e z.follows (z.deadlock taken)
-          (rw b.complete at h)
-          ∙ ap (extensions σ k) (sym (chain_longer path len e (omega (arith, z.long, z.sized)) σ tasks
-          guards z.some))
-
-      -- which is nothing where no event may follow.
-      pub descend_nothing : k ≡ 0 → branch σ k (chain_at path len tasks guards) e ≡ []
-      descend_nothing q = descend_longer ∙ rw q (extensions-zero σ _)
-
-    -- The longer chain is open.
-    pub descend_open : Open σ (set path len e) (len + 1) k (bit_or tasks (2 ^ (task σ e)))
-        (bit_or guards (held σ e)) frontier
-    descend_open = record {
-      long = length-set path len e ∙ z.long;
-      some = omega arith;
-      sized = omega (arith, z.sized);
-      events = rw longer (path_more σ (take len path) e z.events z.event.0 z.event.1);
-      acquires = rw (last) follows_acquire;
-      rooted = rw (chain_longer path len e inside σ tasks guards z.some)
-          (add_rooted σ (chain_at path len tasks guards) e z.rooted);
-      before = rw longer (z.before taken);
-    }
-      where
-        inside : len < length path
-        inside = omega (arith, z.long, z.sized)
-
-        longer : take (len + 1) (set path len e) ≡ take len path ++ e ∷ []
-        longer = path_longer path len e inside
-
-        last : get_or (set path len e) (len + 1 - 1) 0 ≡ e
-        last = let q : len + 1 - 1 ≡ len = omega arith in rw q (get_or-set_same path len e 0 inside)
+  -- A path and one event more may be extended by one event less.
+  pub open_with : {first largest : ℕ} {path : Path} {left : ℕ} {frontier : Frontier}
+      → Open σ first largest path left frontier → 1 ≤ left → (e : ℕ) → 1 ≤ e → e ≤ length σ
+      → T (is_acquire σ e) → (path' : Path) (frontier' : Frontier) → path'.len ≡ path.len + 1
+      → chain_of path' ≡ add (signature σ) (chain_of path) e
+      → Before σ ((chain_of path).events ++ e ∷ []) frontier'.front frontier'.latest
+      → Open σ first largest path' (left - 1) frontier'
+  open_with {path = path} o l e h k t path' frontier' one is z = record {
+    begins = ap (λ (c : Chain). c.first) is ∙ o.begins;
+    sized = omega (arith, o.sized);
+    traced = rw is (traced_add (chain_of path) e o.traced h k t);
+    before = subst (λ (c : Chain). Before σ c.events frontier'.front frontier'.latest) (sym is) z;
+  }

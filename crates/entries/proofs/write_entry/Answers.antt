@@ -1,12 +1,11 @@
 -- `entries::write_entry` meets its contract: the size is written, and behind it one event a turn.
 -- Assumes nothing.
 use mathlib.Core.Path.{◌∙◌}
-use lib.ListN.{take}
 use Rattle.entries.proofs.Laws.{entry_more}
 use Rattle.entries.proofs.write_entry.Goals as goal
 
 pub loop-i-preserved : goal.loop-i-preserved
 loop-i-preserved c =
-    let events = take c.args.size c.args.path.now in
     c.put_number-in-loop-i.ensures
-    ∙ rw c.loop-i.invariant (entry_more c.put_number.new.bytes events c.loop-i.i c.loop-i-test.true)
+    ∙ rw c.loop-i.invariant (entry_more c.put_number.new.bytes c.args.pattern.now
+    c.loop-i.i c.loop-i-test.true)

@@ -7,4 +7,4 @@ use Rattle.model.specs.Bytes.{encode}
 use Rattle.entries.proofs.write_entry.Given as goal
 
 abbrev pub invariant-loop-i : goal.invariant-loop-i
-invariant-loop-i l = l.out ≡ sets l.initial.out 2 (encode (take l.i l.event-items))
+invariant-loop-i l = l.out ≡ sets l.initial.out 2 (encode (take l.i l.pattern))

@@ -1,7 +1,7 @@
 -- `entries::write_rest` meets its contract: what is stored in the rest is stored in the whole.
 -- Assumes nothing.
 use mathlib.Core.List.{◌∷◌}
-use lib.ListN.{take}
+use lib.ListN.{length}
 use Rattle.model.specs.Bytes.{encode}
 use Rattle.laws.proofs.Parts.{sets_part}
 use Rattle.entries.proofs.write_rest.Goals as goal
@@ -10,5 +10,4 @@ pub returns : goal.returns
 returns c =
     let a = c.args in
     let w = c.write_entry in
-    let entry = encode (a.size ∷ take a.size a.path.now) in
-    λ _. sets_part a.at a.out.now w.new.out entry w.ensures
+    λ _. sets_part a.at a.out.now w.new.out (encode (length a.pattern.now ∷ a.pattern.now)) w.ensures

@@ -1,190 +1,130 @@
 -- `listing::search::descend` and `listing::search::extend` meet their contracts, by the number of events
 -- that may still follow: the scan has taken what the events so far add. Assumes nothing.
-use Prim.Native.Nat.{ℕ, ◌-◌, ◌*◌, ◌≤◌, ◌<◌}
-use mathlib.Core.Path.{refl, sym, ◌∙◌}
+use Prim.Native.Nat.{ℕ, suc, ◌-◌, ◌*◌, ◌≤◌}
+use mathlib.Core.Path.{◌≡◌}
 use native.Mathlib.Omega.{arith}
-use lib.ListN.{length, get_or, take, length-take}
-use lib.Seq.{get_or-set_other, get_or-take}
+use lib.Dec.{T}
+use lib.ListN.{length}
+use Rattle.model.specs.Trace.{is_acquire}
 use Rattle.model.specs.Recording.{decode_all}
 use Rattle.laws.proofs.Trace.{decode_all-length}
-use Rattle.laws.proofs.Passing.{listed-event}
 use Rattle.laws.proofs.Results.{passed_on}
-use Rattle.entries.proofs.Laws.{adds_none}
-use Rattle.listing.proofs.Paths.{kept_less, path-kept, returning_fewer, follows_acquire, descend-completes}
-use Rattle.listing.proofs.Paths.{descend_longer, descend_nothing, descend_open}
-use Rattle.listing.proofs.Steps.{kept-start, step_end, still_events, still_returning, kept_reusable}
-use Rattle.listing.proofs.Steps.{kept_next, descending, step_over, step-next}
-use Rattle.listing.proofs.Scans.{scanning-start, scanning_event, scanning_acquire}
+use Rattle.chain.proofs.Laws.{reusable_none, reusable_later, reusable_next}
+use Rattle.listing.proofs.Paths.{returning_fewer, open_with}
+use Rattle.listing.proofs.Scans.{scanning-start, scanning_event, scanning_acquire, scanning_adds}
+use Rattle.listing.proofs.Scans.{scanning_drops, scanning_over, scanning-next, scanning_end}
 use Rattle.listing.proofs.search.+descend_extend.Goals as goal
-use Rattle.listing.proofs.search.+descend_extend.Goals.{extend-Start}
+use Rattle.listing.proofs.search.+descend_extend.Goals.{extend-In-Some}
 
--- An event of the chain is one of the records.
-chain_event : (t : ℕ) (c : goal.extend-Start t) (i : ℕ) → i < c.args.len
-    → (1 ≤ get_or c.args.path.now i 0)
-    × (2 * get_or c.args.path.now i 0 ≤ length c.args.search.now.links.now.trace.now.records.now)
-chain_event t c i h =
-    let o = c.requires.0 in
-    let p = take c.args.len c.args.path.now in
-    let size = length-take c.args.len c.args.path.now in
-    let (low, high, inside) = listed-event c.args.search.now.links.now.trace.now.records.now p i o.events
-    (omega (arith, o.sized, o.long)) (sym (get_or-take c.args.len c.args.path.now i 0 h)) in
-    (low, inside)
+-- The event that follows is one of the records, and an acquire.
+event : (t : ℕ) (c : extend-In-Some t) → let b = c.args.search.now.links.now.trace.now.records.now in
+    (1 ≤ c.in-Some.e) × (2 * c.in-Some.e ≤ length b) × T (is_acquire (decode_all b) c.in-Some.e)
+event t c =
+    let (d, y) = c.in-Some.ensures in
+    let (one, low, high) = scanning_event c.loop-e.invariant.scanning d y in
+    let size = decode_all-length c.args.search.now.links.now.trace.now.records.now in
+    (one, omega arith, scanning_acquire c.loop-e.invariant.scanning d y)
 
--- So is the first one.
-first_event : (t : ℕ) (c : goal.extend-Start t)
-    → get_or c.args.path.now 0 0 ≤ length (decode_all c.args.search.now.links.now.trace.now.records.now)
-first_event t c =
-    omega (
-      arith,
-      chain_event t c 0 (omega (arith, c.requires.0.some)),
-      decode_all-length c.args.search.now.links.now.trace.now.records.now,
-    )
-
-pub descend-overflow_cast-path : goal.descend-overflow_cast-path
-descend-overflow_cast-path t c =
-    let trace = c.args.search.now.links.now.trace.now in
-    omega (arith, c.requires.0.event, trace.short, decode_all-length trace.records.now)
-
-pub descend-completes-requires : goal.descend-completes-requires
-descend-completes-requires t c =
-    let z = c.requires.0 in (
-      z.event.0,
-      omega (arith, z.event.1, decode_all-length c.args.search.now.links.now.trace.now.records.now),
-      c.requires.1.long,
-      follows_acquire z,
-    )
-
-pub descend-returns-then-completes-clause-adds : goal.descend-returns-then-completes-clause-adds
-descend-returns-then-completes-clause-adds t c =
-    let all = sym c.completes.ensures ∙ c.if-completes.true in
-    rw (descend-completes c.requires.0 c.in-Success.is c.requires.1 all) c.take_pattern.ensures.adds
-
-pub descend-returns-then-k-eq0-clause-adds : goal.descend-returns-then-k-eq0-clause-adds
-descend-returns-then-k-eq0-clause-adds t c =
-    let more = sym c.completes.ensures ∙ c.if-completes.false in
-    rw (descend_nothing c.requires.0 c.in-Success.is c.requires.1 more c.if-k-eq0.true)
-    (adds_none c.args.search.now.room _ c.args.found)
-
-pub descend-with_task-requires : goal.descend-with_task-requires
-descend-with_task-requires t c =
-    let z = c.requires.0 in
-    (z.event.0, omega (arith, z.event.1, decode_all-length c.args.search.now.links.now.trace.now.records.now))
-
-pub descend-held-requires : goal.descend-held-requires
-descend-held-requires t c =
-    let z = c.requires.0 in
-    (z.event.0, omega (arith, z.event.1, decode_all-length c.args.search.now.links.now.trace.now.records.now))
-
-pub descend-extend-requires : goal.descend-extend-requires
-descend-extend-requires t c =
-    let a = c.args in
-    let z = c.requires.0 in (
-      omega (arith, c.decreases),
-      (
-        rw (c.with_task.ensures, c.held.ensures) (descend_open z c.in-Success.is c.requires.1),
-        omega (arith, c.if-k-eq0.false),
-        rw (get_or-set_other a.path.now a.len 0 a.e 0 (omega (arith, z.some)))
-            (returning_fewer (omega arith) c.requires.1),
-        c.requires.2,
-      ),
-    )
-
-pub descend-returns-clause-kept : goal.descend-returns-clause-kept
-descend-returns-clause-kept t c =
-    let a = c.args in
-    let z = c.requires.0 in
-    kept_less _ _ a.len c.extend.ensures.kept
-    ∙ path-kept a.path.now a.len a.e (omega (arith, z.sized, z.long))
-
-pub descend-returns-clause-adds : goal.descend-returns-clause-adds
-descend-returns-clause-adds t c =
-    rw (
-      descend_longer c.requires.0 c.in-Success.is c.requires.1
-          (sym c.completes.ensures ∙ c.if-completes.false),
-      ← c.with_task.ensures,
-      ← c.held.ensures,
-    ) c.extend.ensures.adds
+pub descend-closes-requires : goal.descend-closes-requires
+descend-closes-requires t c =
+    let z = c.requires.0.traced in
+    let size = decode_all-length c.args.search.now.links.now.trace.now.records.now in
+    (z.first_event.0, omega (arith, z.first_event), z.last_event.0, omega (arith, z.last_event), z.acquires)
 
 pub extend-loop-e-init : goal.extend-loop-e-init
-extend-loop-e-init t c = (
-  c.requires.0.long,
-  refl,
-  refl,
-  scanning-start (first_event t (goal.at.extend-loop-e-init t c).Start) c.requires.3,
-  kept-start,
-)
+extend-loop-e-init t c = record {
+  scanning = scanning-start c.requires.0.traced.first_event.1 c.requires.2;
+  kept = reusable_none c.new-grown.ensures;
+}
 
 pub extend-following-requires : goal.extend-following-requires
 extend-following-requires t c =
-    let last = chain_event t (goal.at.extend-following-requires t c).Start (c.args.len - 1)
-    (omega (arith, c.requires.0.some)) in
-    let size = decode_all-length c.args.search.now.links.now.trace.now.records.now in
-    (last.0, last.1, omega (arith, c.loop-e.invariant.3.high), c.requires.0.acquires)
+    let o = c.requires.0.traced in
+    let z = c.loop-e.invariant.scanning in
+    let size = decode_all-length c.args.search.now.links.now.trace.now.records.now in (
+      rw z.same.0 o.last_event.0,
+      omega (arith, o.last_event, z.same),
+      omega (arith, z.high),
+      rw z.same.0 o.acquires,
+    )
 
 pub extend-attempt-met-requires : goal.extend-attempt-met-requires
 extend-attempt-met-requires t c =
     let o = c.requires.0 in
-    let l = c.loop-e in
+    let search = c.args.search.now in
     let (d, y) = c.in-Some.ensures in
-    let (one, low, high) = scanning_event l.invariant.3 d y in (
-      still_returning o l.path l.invariant.0 l.invariant.1 c.requires.1 c.requires.2,
-      omega (arith, o.sized, l.invariant.0),
-      still_events o l.path l.invariant.0 l.invariant.1,
-      omega (arith, o.sized, o.some),
-      rw l.invariant.1 (kept_reusable l.invariant.4 (y.passes d).0 o.before),
-      one,
-      omega (arith, high, decode_all-length c.args.search.now.links.now.trace.now.records.now),
-      scanning_acquire l.invariant.3 d y,
+    let (low, high, acquires) = event t (goal.at.extend-attempt-met-requires t c).In-Some in (
+      rw o.begins (returning_fewer (omega (arith, o.sized, c.requires.1)) search.returning),
+      o.traced.events,
+      omega (arith, o.sized, search.sized, c.args.path.now.sized),
+      o.before,
+      reusable_later (y.passes d).0 c.loop-e.invariant.kept,
+      low,
+      high,
+      acquires,
     )
 
-pub extend-exclude-excluded-requires : goal.extend-exclude-excluded-requires
-extend-exclude-excluded-requires t c =
-    let (d, y) = c.in-Some.ensures in
-    let (one, low, high) = scanning_event c.loop-e.invariant.3 d y in
-    (one, omega (arith, high, decode_all-length c.args.search.now.links.now.trace.now.records.now))
+pub extend-exclude-chain-requires : goal.extend-exclude-chain-requires
+extend-exclude-chain-requires t c =
+    let (low, high, acquires) = event t (goal.at.extend-exclude-chain-requires t c).In-Some in
+    (low, high)
 
-pub extend-reused-of-requires : goal.extend-reused-of-requires
-extend-reused-of-requires t c =
-    let (d, y) = c.in-Some.ensures in
-    let (one, low, high) = scanning_event c.loop-e.invariant.3 d y in
-    (one, omega (arith, high, decode_all-length c.args.search.now.links.now.trace.now.records.now))
+pub extend-with-requires : goal.extend-with-requires
+extend-with-requires t c =
+    let (low, high, acquires) = event t (goal.at.extend-with-requires t c).In-Some in
+    (omega (arith, c.requires.0.sized, c.requires.1, c.args.search.now.sized), low, high)
 
 pub extend-descend-requires : goal.extend-descend-requires
 extend-descend-requires t c =
-    let o = c.requires.0 in
-    let l = c.loop-e in
-    let (d, y) = c.in-Some.ensures in (
+    let (d, y) = c.in-Some.ensures in
+    let z = c.loop-e.invariant.scanning in
+    let (one, low, high) = scanning_event z d y in (
       omega (arith, c.decreases, c.requires.1),
       (
-        descending o l.path l.invariant.0 l.invariant.1 c.requires.1 l.invariant.3 d y
-            c.attempt-met.ensures.0,
-        still_returning o l.path l.invariant.0 l.invariant.1 c.requires.1 c.requires.2,
-        l.invariant.3.roomy,
+        open_with _ c.requires.0 c.requires.1 c.in-Some.e one high (scanning_acquire z d y) c.with.result
+            c.attempt-met.new.self.frontier c.with.ensures.len c.with.ensures.chain
+            (c.attempt-met.ensures.grows (λ q. cc (c.in-Success.is))),
+        z.roomy,
       ),
     )
 
-pub extend-returns-in_err-taken-clause-adds : goal.extend-returns-in_err-taken-clause-adds
-extend-returns-in_err-taken-clause-adds t c =
-    let l = c.loop-e in
+pub extend-returns-in_err-taken-in-Success-clause-adds :
+    goal.extend-returns-in_err-taken-in-Success-clause-adds
+extend-returns-in_err-taken-in-Success-clause-adds t c =
     let (d, y) = c.in-Some.ensures in
-    rw (passed_on c.from_residual.result _ c.from_residual.ensures.1)
-    (step_over c.requires.0 l.path l.invariant.0 l.invariant.1 c.requires.1 l.invariant.3 d y
-    c.in_err-taken.ensures.adds)
+    let z = c.loop-e.invariant.scanning in
+    let size : c.args.left ≡ suc (c.args.left - 1) = omega (arith, c.requires.1) in
+    rw (passed_on c.from_residual.result _ c.from_residual.ensures.1, size)
+    (scanning_over z d y (scanning_adds z d y c.attempt-met.ensures c.in-Success.is _ c.with.ensures.chain
+    c.in_err-taken-in-Success.ensures.adds))
+
+pub extend-loop-e-preserved-in-Success : goal.extend-loop-e-preserved-in-Success
+extend-loop-e-preserved-in-Success t c =
+    let (d, y) = c.in-Some.ensures in
+    let z = c.loop-e.invariant.scanning in
+    let tried = c.attempt-met.ensures in
+    let done = c.in_ok-taken-in-Success.ensures in record {
+      scanning = scanning-next z d y c.requires.0.traced.rooted tried c.exclude-chain.ensures
+          (scanning_adds z d y tried c.in-Success.is _ c.with.ensures.chain done.adds) done.roomy;
+      kept =
+          reusable_next (scanning_event z d y).0 (reusable_later (y.passes d).0 c.loop-e.invariant.kept)
+          tried;
+    }
 
 pub extend-loop-e-preserved : goal.extend-loop-e-preserved
 extend-loop-e-preserved t c =
-    let l = c.loop-e in
     let (d, y) = c.in-Some.ensures in
-    let attempted = c.attempt-met.ensures in
-    let done = c.in_ok-taken.ensures in
-    let (one, low, high) = scanning_event l.invariant.3 d y in (
-      c.descend.auto.path ∙ l.invariant.0,
-      done.kept ∙ l.invariant.1,
-      c.descend.auto.out ∙ l.invariant.2,
-      step-next c.requires.0 l.path l.invariant.0 l.invariant.1 c.requires.1 l.invariant.3 d y attempted.0
-          c.exclude-excluded.ensures done.adds done.roomy,
-      kept_next l.invariant.1 l.invariant.4 (y.passes d).0 one attempted.0 attempted.1 c.reused-of.ensures,
-    )
+    let z = c.loop-e.invariant.scanning in
+    let tried = c.attempt-met.ensures in
+    let rooted = c.requires.0.traced.rooted in record {
+      scanning = scanning-next z d y rooted tried c.exclude-chain.ensures
+          (scanning_drops z d y tried c.in_default-met.not-Success rooted) z.roomy;
+      kept =
+          reusable_next (scanning_event z d y).0 (reusable_later (y.passes d).0 c.loop-e.invariant.kept)
+          tried;
+    }
 
 pub extend-returns-clause-adds : goal.extend-returns-clause-adds
-extend-returns-clause-adds t c = step_end c.requires.1 c.loop-e.invariant.3 c.in_default.ensures
+extend-returns-clause-adds t c =
+    let size : c.args.left ≡ suc (c.args.left - 1) = omega (arith, c.requires.1) in
+    rw size (scanning_end c.loop-e.invariant.scanning c.in_default.ensures)

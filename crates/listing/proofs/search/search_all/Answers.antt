@@ -1,34 +1,29 @@
 -- `listing::search::search_all` meets its contract: what the events so far begin has been taken. Assumes
 -- nothing.
 use Prim.Native.Nat.{suc, ◌-◌}
-use mathlib.Core.Path.{◌≡◌, refl, ◌∙◌}
+use mathlib.Core.Path.{◌≡◌}
 use native.Mathlib.Omega.{arith}
 use Rattle.laws.proofs.Trace.{decode_all-length}
 use Rattle.laws.proofs.Results.{passed_on}
 use Rattle.pruning.proofs.Nested.{nested_acquire}
-use Rattle.listing.proofs.Beginnings.{searching-start, searching-next, searching_over, searching_end}
+use Rattle.listing.proofs.Beginnings.{searching-next, searching_over, searching_end}
 use Rattle.listing.proofs.search.search_all.Goals as goal
-
-pub loop-a-init : goal.loop-a-init
-loop-a-init c = (refl, refl, searching-start)
 
 pub link-requires : goal.link-requires
 link-requires c =
-    omega (arith, c.loop-a.invariant.2.high, decode_all-length c.args.links.now.trace.now.records.now)
+    omega (arith, c.loop-a.invariant.high, decode_all-length c.args.links.now.trace.now.records.now)
 
 pub search_first-requires : goal.search_first-requires
 search_first-requires c =
-    let l = c.loop-a in
     let (d, y) = c.in-Some.ensures in
     let e = y.passes d in (
-      c.note_leads.ensures,
+      c.leads-lead.ensures,
       omega (arith, e.0),
       omega (arith, e.1, decode_all-length c.args.links.now.trace.now.records.now),
       nested_acquire _ c.in-Some.a e.2,
       c.requires.0,
       c.requires.1,
-      l.invariant.0,
-      l.invariant.2.roomy,
+      c.loop-a.invariant.roomy,
     )
 
 pub returns-in_err-found-clause-taken : goal.returns-in_err-found-clause-taken
@@ -36,21 +31,16 @@ returns-in_err-found-clause-taken c =
     let (d, y) = c.in-Some.ensures in
     let size : c.args.largest ≡ suc (c.args.largest - 1) = omega (arith, c.requires.0) in
     rw (passed_on c.from_residual.result _ c.from_residual.ensures.1, size)
-    (searching_over c.loop-a.invariant.2 d y (omega (arith, c.requires.0, c.requires.1))
+    (searching_over c.loop-a.invariant d y (omega (arith, c.requires.0, c.requires.1))
     c.in_err-found.ensures.adds)
 
 pub loop-a-preserved : goal.loop-a-preserved
 loop-a-preserved c =
-    let l = c.loop-a in
     let (d, y) = c.in-Some.ensures in
-    let done = c.in_ok-found.ensures in (
-      c.search_first.auto.path ∙ l.invariant.0,
-      c.search_first.auto.out ∙ l.invariant.1,
-      searching-next l.invariant.2 d y done.adds done.roomy,
-    )
+    let done = c.in_ok-found.ensures in
+    searching-next c.loop-a.invariant d y done.adds done.roomy
 
 pub returns-clause-taken : goal.returns-clause-taken
 returns-clause-taken c =
     let q : c.args.largest ≡ suc (c.args.largest - 1) = omega (arith, c.requires.0) in
-    rw q
-    (searching_end c.loop-a.invariant.2 c.in_default.ensures (omega (arith, c.requires.0, c.requires.1)))
+    rw q (searching_end c.loop-a.invariant c.in_default.ensures (omega (arith, c.requires.0, c.requires.1)))

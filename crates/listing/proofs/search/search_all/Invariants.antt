@@ -1,17 +1,14 @@
 -- `listing::search::search_all` meets its contract: what the events so far begin has been taken. Assumes
 -- nothing.
 use Prim.Native.Nat.{◌-◌}
-use mathlib.Core.Path.{◌≡◌}
 use lib.ListN.{length}
 use Rattle.model.specs.Recording.{decode_all}
-use Rattle.model.specs.Pattern.{largest_pattern}
 use Rattle.listing.proofs.Beginnings.{Searching}
 use Rattle.listing.proofs.search.search_all.Given as goal
 
 abbrev pub invariant-loop-a : goal.invariant-loop-a
 invariant-loop-a l =
-    (length l.path ≡ largest_pattern) × (length l.out ≡ length l.initial.out)
-    × Searching (decode_all l.links.trace.now.records.now) (l.largest - 1) l.room l.at l.initial.out l.out
+    Searching (decode_all l.links.trace.now.records.now) (l.largest - 1) l.room l.at l.initial.out l.out
     l.found
 
 abbrev pub decreases-loop-a : goal.decreases-loop-a

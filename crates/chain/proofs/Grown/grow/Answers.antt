@@ -1,15 +1,14 @@
--- `chain::grow` meets its contract: from the frontier that was copied or kept. Assumes nothing.
+-- `chain::Grown::grow` meets its contract: from the frontier that was copied or kept. Assumes nothing.
 use Rattle.model.specs.Recording.{decode_all}
 use Rattle.laws.proofs.Trace.{record-event}
 use Rattle.laws.proofs.Questions.{events_sound}
 use Rattle.chain.proofs.Laws.{grow_reaches}
-use Rattle.chain.proofs.grow.Goals as goal
+use Rattle.chain.proofs.Grown.grow.Goals as goal
 
-pub returns : goal.returns
-returns c =
+pub returns-clause-before : goal.returns-clause-before
+returns-clause-before c =
     let a = c.args in
     let b = a.trace.now.records.now in
-    let r = c.renew.ensures in
     let event = record-event b a.e (c.requires.2, c.requires.3) in
-    grow_reaches (decode_all b) a.of a.e a.frontier.now a.grown.now _ r.kept r.copied
+    grow_reaches (decode_all b) a.e a.frontier.now _ a.self.now c.renew.ensures.kept c.renew.ensures.copied
     (events_sound b a.trace.now.accepted) _ _ event.0 event.1 c.extend.ensures
