@@ -1,6 +1,6 @@
 -- The tables of a recording: for each event 1 to n what the definitions say of it, but that a row has what
--- the event awaits, a read its writer and a join what it waits for, and as the match of an inner event, a start
--- or a join its own number.
+-- the event awaits, a read its writer and a join what it waits for, and as the match of an inner event, a
+-- start or a join its own number.
 use Rattle.std.specs.Prelude.{ℕ, ◌≤◌, ◌<◌, ◌≡◌, List, length, get_or}
 use Rattle.model.specs.Trace.{Trace, tasks}
 use Rattle.model.specs.Relations.{predecessor, held}

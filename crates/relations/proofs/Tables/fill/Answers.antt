@@ -1,4 +1,5 @@
--- `relations::Tables::fill` meets its contract: before each event the earlier ones are noted. Assumes nothing.
+-- `relations::Tables::fill` meets its contract: before each event the earlier ones are noted.
+-- Assumes nothing.
 use native.Mathlib.Omega.{arith}
 use Rattle.model.specs.Recording.{decode_all}
 use Rattle.relations.proofs.Rows.{noted_end}

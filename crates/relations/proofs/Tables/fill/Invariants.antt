@@ -1,4 +1,5 @@
--- `relations::Tables::fill` meets its contract: before each event the earlier ones are noted. Assumes nothing.
+-- `relations::Tables::fill` meets its contract: before each event the earlier ones are noted.
+-- Assumes nothing.
 use Rattle.model.specs.Recording.{decode_all}
 use Rattle.relations.specs.Tables.{Noted, Walked}
 use Rattle.relations.proofs.Tables.fill.Given as goal
