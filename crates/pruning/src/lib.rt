@@ -84,14 +84,7 @@ fn mark_blocks(trace: &Trace, next: &[u16; 4096]) -> [u64; 64]
 }
 
 // Notes the held locks of the acquire e with its lock, unless its task is t or it holds a guard.
-fn note_lead(
-    trace: &Trace,
-    a: usize,
-    t: Option<u8>,
-    guards: u64,
-    lead: &mut [u64; 64],
-    e: usize,
-)
+fn note_lead(trace: &Trace, a: usize, t: Option<u8>, guards: u64, lead: &mut [u64; 64], e: usize)
     requires { (1 ≤ e) × (2 * e ≤ length trace.now.records.now)
         × T (is_acquire (decode_all trace.now.records.now) e)
         × Led (decode_all trace.now.records.now) a e (number_of t) guards lead.old }

@@ -19,8 +19,11 @@ pub returns-in_err-decide : goal.returns-in_err-decide
 returns-in_err-decide c =
     let (q, none) = rw c.read.ensures.events at c.in_err-decide.ensures in
     let is = verdict_accepted c.args.recording.now c.args.pattern.now (is_passed _ _ c.in_ok-check.ensures) in
-    rw (passed_on c.from_residual-in_err-decide.result (refusal c.in_err-decide.field-0.0 0)
-    c.from_residual-in_err-decide.ensures.1, q) (rw none at is)
+    rw (
+      passed_on c.from_residual-in_err-decide.result (refusal c.in_err-decide.field-0.0 0)
+          c.from_residual-in_err-decide.ensures.1,
+      q,
+    ) (rw none at is)
 
 pub returns-in-Some : goal.returns-in-Some
 returns-in-Some c =

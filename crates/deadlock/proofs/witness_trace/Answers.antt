@@ -16,8 +16,11 @@ returns-in_err-decide c =
     let (q, none) = c.in_err-decide.ensures in
     let (x, y) = witness_from-none (decode_all a.trace.now.records.now) a.pattern.now a.out.now none in
     record {
-      answer = rw (passed_on c.from_residual.result (refusal c.in_err-decide.field-0.0 0)
-          c.from_residual.ensures.1, q) x;
+      answer = rw (
+        passed_on c.from_residual.result (refusal c.in_err-decide.field-0.0 0)
+            c.from_residual.ensures.1,
+        q,
+      ) x;
       output = y;
     }
 
