@@ -24,9 +24,9 @@ pub record Reusable (σ : Trace) (p : List ℕ) (e : ℕ) (grown : Grown) : Type
   pub again : (t : ℕ) → grown.of ≡ Some t → (d : ℕ) × (1 ≤ d) × (d < e) × (task σ d ≡ t)
       × Before σ (p ++ d ∷ []) grown.frontier.front grown.frontier.latest
 
--- Event e after a chain: with success they make a deadlock so far; otherwise e adds nothing, and where its
--- task fails no later event of the task does. The frontier is that of their predecessors, and its task that of
--- e, unless e is skipped.
+-- Event e after a chain: with success they make a deadlock so far; otherwise e adds nothing, and where
+-- its task fails no later event of the task does. The frontier is that of their predecessors, and its
+-- task that of e, unless e is skipped.
 pub record Attempted (σ : Trace) (k : ℕ) (c : Chain) (e : ℕ) (r : Trial) (old new : Grown) : Type 0 where
   pub deadlock : r ≡ Success → is_deadlock σ (c.events ++ e ∷ []) ≡ true
   pub grows : r ≢ Skipped → Before σ (c.events ++ e ∷ []) new.frontier.front new.frontier.latest

@@ -1,4 +1,5 @@
--- Question 10's test of each number, what is decided of a lent pattern, and the events in the set of a frontier.
+-- Question 10's test of each number, what is decided of a lent pattern, and the events in the set of a
+-- frontier.
 use Rattle.std.specs.Prelude.{ℕ, ◌+◌, ◌-◌, ◌<◌, ◌≡◌, Bool, cond, ◌&&◌, List, [], ◌∷◌, leb, ltb, length}
 use Rattle.std.specs.Prelude.{get_or, Option, Some, None, Result, Ok, Err}
 use Rattle.model.specs.declared.Question.{Question}
@@ -33,8 +34,8 @@ pub record Reached (σ : Trace) (p front : List ℕ) : Type 0 where
   pub long : length front ≡ tasks
   pub members : FrontOf σ p front
 
--- What is said of the bytes of a pattern: that they are none, that the verdict is "not", or that it is deadlock,
--- with the frontier of the closure of the predecessors.
+-- What is said of the bytes of a pattern: that they are none, that the verdict is "not", or that it is
+-- deadlock, with the frontier of the closure of the predecessors.
 abbrev pub Decided : Trace → List ℕ → Result (Option Frontier) Question → Type 0
 Decided σ p (Err q) = (q ≡ Pattern) × (judged σ p ≡ None)
 Decided σ p (Ok None) = judged σ p ≡ Some Not

@@ -26,8 +26,8 @@ use model::{Question, Refusal, Verdict};
 use recording::Op;
 use relations::Trace;
 
-// A chain of outer acquires, by what decides which event may follow: its first and its last one, and the masks
-// of its events' tasks and of their held locks.
+// A chain of outer acquires, by what decides which event may follow: its first and its last one, and the
+// masks of its events' tasks and of their held locks.
 #[derive(Clone, Copy, Debug, PartialEq, Eq)]
 pub struct Chain {
     pub first: usize,
@@ -38,7 +38,8 @@ pub struct Chain {
 
 // The lock of the acquire e is in the mask.
 pub fn lock_in_mask(trace: &Trace, mask: u64, e: usize) -> bool
-    requires { (1 ≤ e) × (2 * e ≤ length trace.now.records.now) × T (is_acquire (decode_all trace.now.records.now) e) }
+    requires { (1 ≤ e) × (2 * e ≤ length trace.now.records.now)
+        × T (is_acquire (decode_all trace.now.records.now) e) }
     ensures { result ≡ has_bit mask (object (decode_all trace.now.records.now) e) }
 {
     recording::in_mask(mask, trace.object(e) as u64)
@@ -110,8 +111,8 @@ impl Chain {
         }
     }
 
-    // Event e may follow the chain: it is an acquire, its task is new, and its held locks have the last event's
-    // lock and none of the chain's.
+    // Event e may follow the chain: it is an acquire, its task is new, and its held locks have the last
+    // event's lock and none of the chain's.
     pub fn follows(&self, trace: &Trace, e: usize) -> bool
         requires { (1 ≤ self.now.last) × (2 * self.now.last ≤ length trace.now.records.now)
             × T (is_acquire (decode_all trace.now.records.now) self.now.last)
@@ -131,8 +132,8 @@ impl Chain {
         is_acquire(trace, held, e)
     }
 
-    // The number e may come next in a pattern that begins as the chain does: it is that of an event later than
-    // the first one, which may follow.
+    // The number e may come next in a pattern that begins as the chain does: it is that of an event later
+    // than the first one, which may follow.
     fn joins(&self, trace: &Trace, e: usize) -> bool
         requires { (1 ≤ self.now.last) × (2 * self.now.last ≤ length trace.now.records.now)
             × T (is_acquire (decode_all trace.now.records.now) self.now.last) }
@@ -161,7 +162,8 @@ impl Chain {
 // The numbers after the first complete the chain of the acquire a: each joins the chain before it, and the
 // last one closes it.
 fn completes(trace: &Trace, pattern: &[u8], a: usize) -> bool
-    requires { (1 ≤ a) × (2 * a ≤ length trace.now.records.now) × T (is_acquire (decode_all trace.now.records.now) a)
+    requires { (1 ≤ a) × (2 * a ≤ length trace.now.records.now)
+        × T (is_acquire (decode_all trace.now.records.now) a)
         × (2 ≤ length pattern.now) }
     ensures { result ≡ completing (decode_all trace.now.records.now)
         (start (signature (decode_all trace.now.records.now)) a) (drop 1 (numbers pattern.now)) }
@@ -198,7 +200,8 @@ pub fn lends_pattern(trace: &Trace, pattern: &[u8]) -> bool
     completes(trace, pattern, a)
 }
 
-// The frontier of the closure of the predecessors of the pattern's events, to which it advances event by event.
+// The frontier of the closure of the predecessors of the pattern's events, to which it advances event by
+// event.
 fn reach(trace: &Trace, pattern: &[u8]) -> Frontier
     requires { T (all (is_event (decode_all trace.now.records.now)) (numbers pattern.now)) }
     ensures { Before (decode_all trace.now.records.now) (numbers pattern.now) result.front result.latest }
@@ -221,7 +224,8 @@ pub fn avoids<F: Fn(usize) -> u16>(
     requires events { (i : ℕ) (e : ℕ) → i < count → F.post event i e
         → (1 ≤ e) × (2 * e ≤ length trace.now.records.now) }
     ensures { (ns : List ℕ) → Gives (F.post event) count ns
-        → result ≡ all (λ e. not (leb e (get_or frontier.now.front (task (decode_all trace.now.records.now) e) 0))) ns }
+        → result ≡ all (λ e. not (leb e
+        (get_or frontier.now.front (task (decode_all trace.now.records.now) e) 0))) ns }
 {
     for i in 0..count {
         if frontier.contains(trace, event(i) as usize) {
@@ -231,7 +235,8 @@ pub fn avoids<F: Fn(usize) -> u16>(
     true
 }
 
-// Decides the lent bytes: question 10, and of a deadlock the frontier of the closure of its events' predecessors.
+// Decides the lent bytes: question 10, and of a deadlock the frontier of the closure of its events'
+// predecessors.
 pub fn decide(trace: &Trace, pattern: &[u8]) -> Result<Option<Frontier>, Question>
     ensures { Decided (decode_all trace.now.records.now) pattern.now result }
 {
@@ -279,7 +284,8 @@ fn count_behind(trace: &Trace, frontier: &Frontier) -> u64
 // Writes event e at a position of the output, where it is in the set of the frontier: the position after it.
 fn write_one(trace: &Trace, frontier: &Frontier, out: &mut [u8], at: usize, e: usize) -> usize
     requires { (1 ≤ e) × (2 * e ≤ length trace.now.records.now) × (e < table_length)
-        × (at + length (encode (behind_at (decode_all trace.now.records.now) frontier.now.front e)) ≤ length out.old) }
+        × (at + length (encode (behind_at (decode_all trace.now.records.now) frontier.now.front e))
+        ≤ length out.old) }
     ensures { (result ≡ at
         + length (encode (behind_at (decode_all trace.now.records.now) frontier.now.front e)))
         × (out.new ≡ sets out.old at

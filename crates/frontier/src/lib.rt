@@ -2,7 +2,8 @@
 // frontier, the latest event that it has of each task; an event is visited once, when the frontier passes it.
 #![tactic(auto)]
 
-ghost use Rattle.std.specs.Prelude.{ℕ, suc, ◌*◌, ◌<◌, ◌≤◌, min, ◌≡◌, cond, length, get_or, eqb, leb, replicate};
+ghost use Rattle.std.specs.Prelude.{ℕ, suc, ◌*◌, ◌<◌, ◌≤◌, min, ◌≡◌, cond, length, get_or, eqb, leb};
+ghost use Rattle.std.specs.Prelude.{replicate};
 ghost use Rattle.model.specs.Trace.{tasks, locks, task, object};
 ghost use Rattle.model.specs.Relations.{predecessor};
 ghost use Rattle.laws.specs.EventKinds.{marked};
@@ -14,7 +15,8 @@ ghost use Rattle.frontier.specs.Visit.{wanted_earlier, latest_with, wanted_with,
 use recording::Op;
 use relations::Trace;
 
-// A closed set, by the latest event that it has of each task, and of each lock its latest outer acquire there.
+// A closed set, by the latest event that it has of each task, and of each lock its latest outer acquire
+// there.
 #[derive(Clone, Copy, Debug, PartialEq, Eq)]
 pub struct Frontier {
     pub front: [u16; 16],
@@ -140,8 +142,8 @@ impl Frontier {
         }
     }
 
-    // Advances the frontier to that of the smallest closed set with the wanted events, task by task, until none
-    // has more to reach. A closed set is extended the same way: with further events wanted.
+    // Advances the frontier to that of the smallest closed set with the wanted events, task by task,
+    // until none has more to reach. A closed set is extended the same way: with further events wanted.
     pub fn advance(&mut self, trace: &Trace, want: &mut [u16; 16])
         requires { Settled (decode_all trace.now.records.now) self.old.front want.old self.old.latest }
         ensures { Advanced (decode_all trace.now.records.now) want.old self.new.front self.new.latest }

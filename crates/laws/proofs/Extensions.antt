@@ -52,8 +52,8 @@ module _ (σ : Trace) where
         (λ f. decided (is_deadlock σ (c.events ++ e ∷ [])) (λ d. rw (f, d, z, x)) (λ d. rw (f, d)))
         (λ f. rw f)
 
-    -- One that fits and makes a deadlock with the chain adds the longer chain where this closes, and otherwise
-    -- what extends it.
+    -- One that fits and makes a deadlock with the chain adds the longer chain where this closes, and
+    -- otherwise what extends it.
     pub branch_deadlock : fits (signature σ) c e ≡ true → is_deadlock σ (c.events ++ e ∷ []) ≡ true
         → branch σ k c e ≡ cond (closes (signature σ) (add (signature σ) c e)) ((c.events ++ e ∷ []) ∷ [])
         (extensions σ k (add (signature σ) c e))

@@ -1,5 +1,5 @@
--- What a `?` returns where it passes on an error of the same type, and what a result says of the check that it
--- tells. Assumes nothing.
+-- What a `?` returns where it passes on an error of the same type, and what a result says of the check
+-- that it tells. Assumes nothing.
 use Rattle.std.specs.Prelude.{◌≡◌, ◌≢◌, Result, Ok, Err, refl}
 use Rattle.std.specs.Result.{IsErrAnd}
 use Prim.Native.Nat.{ℕ, ◌≤◌}

@@ -1,6 +1,7 @@
 -- The acquires that can stand in a pattern, as links from each event to the next of them and by the locks
 -- that are held in blocks of 64 events.
-use Rattle.std.specs.Prelude.{ℕ, ◌-◌, ◌/◌, ◌≤◌, ◌≡◌, ◌≢◌, Bool, false, not, ◌&&◌, cond, List, T, eqb, length, get_or}
+use Rattle.std.specs.Prelude.{ℕ, ◌-◌, ◌/◌, ◌≤◌, ◌≡◌, ◌≢◌, Bool, false, not, ◌&&◌, cond, List, T, eqb}
+use Rattle.std.specs.Prelude.{length, get_or}
 use Rattle.std.specs.Prelude.{Option, Some, None}
 use Rattle.model.specs.Lists.{has_bit}
 use Rattle.model.specs.Trace.{Trace, tasks, object, is_acquire}
@@ -53,8 +54,8 @@ pub record Unreturned (σ : Trace) (a count : ℕ) : Type 0 where
   pub returning : Returning σ a count back
   pub apart : has_bit (get_or back (count - 1) 0) (object σ a) ≡ false
 
--- The ways back to event a of the chains of at most `count` events that begin with it, or none where they do not
--- return.
+-- The ways back to event a of the chains of at most `count` events that begin with it, or none where they
+-- do not return.
 abbrev pub WaysBack : Trace → ℕ → ℕ → Option (List ℕ) → Type 0
 WaysBack σ a count None = Unreturned σ a count
 WaysBack σ a count (Some back) = Returning σ a count back

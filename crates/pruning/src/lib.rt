@@ -13,7 +13,8 @@ ghost use Rattle.laws.specs.Sizes.{table_length};
 ghost use Rattle.laws.specs.Chain.{signature, fits};
 ghost use Rattle.laws.specs.Returning.{Covers, Led, Leading, Spread};
 ghost use Rattle.deadlock.specs.Judged.{of_events};
-ghost use Rattle.pruning.specs.Linked.{is_nested, event_of, number_of, Linked, Marked, is_near, Earliest, WaysBack};
+ghost use Rattle.pruning.specs.Linked.{is_nested, event_of, number_of, Linked, Marked, is_near, Earliest};
+ghost use Rattle.pruning.specs.Linked.{WaysBack};
 
 use deadlock::Chain;
 use relations::Trace;
@@ -149,7 +150,8 @@ impl<'a> Links<'a> {
         requires { (1 ≤ chain.now.last) × (2 * chain.now.last ≤ length self.now.trace.now.records.now)
             × (2 * e ≤ length self.now.trace.now.records.now)
             × T (is_acquire (decode_all self.now.trace.now.records.now) chain.now.last) }
-        ensures { Earliest (fits (signature (decode_all self.now.trace.now.records.now)) (of_events [] chain.now))
+        ensures { Earliest (fits (signature (decode_all self.now.trace.now.records.now))
+            (of_events [] chain.now))
             (length (decode_all self.now.trace.now.records.now)) e result }
     {
         let l = self.trace.object(chain.last) as u64;
@@ -216,8 +218,8 @@ fn fill_back(lead: &[u64; 64], held: u64, count: usize) -> [u64; 16]
     back
 }
 
-// The locks that lead back to the acquire a after each number of events more, unless no chain of at most `count`
-// events that begins with it may return to it.
+// The locks that lead back to the acquire a after each number of events more, unless no chain of at most
+// `count` events that begins with it may return to it.
 pub fn ways_back(trace: &Trace, lead: &[u64; 64], a: usize, count: usize) -> Option<[u64; 16]>
     requires { (1 ≤ a) × (2 * a ≤ length trace.now.records.now)
         × T (is_acquire (decode_all trace.now.records.now) a)

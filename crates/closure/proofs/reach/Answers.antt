@@ -1,4 +1,5 @@
--- `closure::reach` meets its contract: the wanted events are a frontier, and it advances to theirs. Assumes nothing.
+-- `closure::reach` meets its contract: the wanted events are a frontier, and it advances to theirs.
+-- Assumes nothing.
 use mathlib.Core.Path.{refl}
 use borrow.Author.Rules.{rules}
 use Rattle.model.specs.Recording.{decode_all}
@@ -12,7 +13,8 @@ advance-requires c =
     let σ = decode_all c.args.trace.now.records.now in
     let want = c.wanted.result in
     rw c.empty-frontier.ensures
-    (settled-start σ _ want _ (wanted_frontier σ c.args.words.now want (search rules) c.wanted.ensures) refl refl)
+    (settled-start σ _ want _ (wanted_frontier σ c.args.words.now want (search rules) c.wanted.ensures)
+    refl refl)
 
 pub returns : goal.returns
 returns c =

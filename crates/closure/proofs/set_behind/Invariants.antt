@@ -13,4 +13,5 @@ use Rattle.closure.proofs.set_behind.Given as goal
 abbrev pub invariant-loop-e : goal.invariant-loop-e
 invariant-loop-e l =
     (i : ℕ) → row_bit 64 l.words i
-    ≡ (ltb i (l.e - 1) && leb (suc i) (get_or l.frontier.front (task (decode_all l.trace.records.now) (suc i)) 0))
+    ≡ (ltb i (l.e - 1) && leb (suc i) (get_or l.frontier.front
+    (task (decode_all l.trace.records.now) (suc i)) 0))

@@ -17,23 +17,30 @@ use Rattle.deadlock.proofs.completes.Goals.{After-number-e}
 
 pub loop-i-init : goal.loop-i-init
 loop-i-init c =
+    let σ = decode_all c.args.trace.now.records.now in
     let is = c.start-chain.ensures in
     let last = ap (λ (x : Chain). x.last) is in (
       ap (λ (x : Chain). x.first) is,
       rw last c.requires.0,
       rw last c.requires.1,
       rw last c.requires.2,
-      ap (λ (x : Chain). completing (decode_all c.args.trace.now.records.now) x (drop 1 (numbers c.args.pattern.now))) is,
+      ap (λ (x : Chain). completing σ x (drop 1 (numbers c.args.pattern.now))) is,
     )
 
 -- What the numbers from a place on must complete, by the next one.
-next : (c : goal.After-number-e) → completing (decode_all c.args.trace.now.records.now) (of_events [] c.loop-i.chain) (drop c.loop-i.i (numbers c.args.pattern.now))
-    ≡ (joins (decode_all c.args.trace.now.records.now) (of_events [] c.loop-i.chain) c.number-e.result
-    && completing (decode_all c.args.trace.now.records.now) (add (signature (decode_all c.args.trace.now.records.now)) (of_events [] c.loop-i.chain) c.number-e.result) (drop (c.loop-i.i + 1) (numbers c.args.pattern.now)))
+next : (c : goal.After-number-e) → let σ = decode_all c.args.trace.now.records.now in
+    let k = c.loop-i in
+    let ns = numbers c.args.pattern.now in
+    let e = c.number-e.result in
+    let chain = of_events [] k.chain in
+    completing σ chain (drop k.i ns)
+    ≡ (joins σ chain e && completing σ (add (signature σ) chain e) (drop (k.i + 1) ns))
 next c =
+    let k = c.loop-i in
+    let ns = numbers c.args.pattern.now in
     let size = numbers-length c.args.pattern.now in
-    rw c.number-e.ensures (completing_next (decode_all c.args.trace.now.records.now) (numbers c.args.pattern.now)
-    (of_events [] c.loop-i.chain) c.loop-i.i (omega (arith, c.loop-i-test.true)))
+    rw c.number-e.ensures (completing_next (decode_all c.args.trace.now.records.now) ns (of_events [] k.chain)
+    k.i (omega (arith, c.loop-i-test.true)))
 
 pub returns-then-not-joins : goal.returns-then-not-joins
 returns-then-not-joins c =
@@ -47,6 +54,8 @@ add-chain-requires c =
 pub loop-i-preserved : goal.loop-i-preserved
 loop-i-preserved c =
     let yes = sym c.joins.ensures ∙ c.if-not-joins.false in
+    let σ = decode_all c.args.trace.now.records.now in
+    let rest = drop (c.loop-i.i + 1) (numbers c.args.pattern.now) in
     let z = joins-event c.args.trace.now.records.now _ _ yes in
     let is = c.add-chain.ensures [] in
     let last = ap (λ (x : Chain). x.last) is in (
@@ -54,7 +63,7 @@ loop-i-preserved c =
       rw last z.0,
       rw last z.1,
       rw last z.2,
-      ap (λ (x : Chain). completing (decode_all c.args.trace.now.records.now) x (drop (c.loop-i.i + 1) (numbers c.args.pattern.now))) is
+      ap (λ (x : Chain). completing σ x rest) is
           ∙ sym (rw yes at (next (goal.at.loop-i-preserved c).After-number-e)) ∙ c.loop-i.invariant.4,
     )
 

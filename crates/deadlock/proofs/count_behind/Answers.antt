@@ -44,6 +44,11 @@ returns c =
     let σ = decode_all c.args.trace.now.records.now in
     let size = decode_all-length c.args.trace.now.records.now in
     let last : k.e ≡ length σ + 1 = omega (arith, c.loop-e-test.false, k.auto.e-end, c.len-e-end.ensures) in (
-      omega (arith, k.invariant, behind-count σ c.args.frontier.now.front k.e k.auto.e, c.args.trace.now.short),
+      omega (
+        arith,
+        k.invariant,
+        behind-count σ c.args.frontier.now.front k.e k.auto.e,
+        c.args.trace.now.short,
+      ),
       k.invariant ∙ ap (λ (e : ℕ). length (behind_below σ c.args.frontier.now.front e)) last,
     )

@@ -17,13 +17,15 @@ use Rattle.deadlock.proofs.reach.Goals.{Start}
 -- A number of the pattern is an event.
 event : (s : goal.Start) {i e : ℕ} → i < length s.args.pattern.now / 2
     → e ≡ get_or (numbers s.args.pattern.now) i 0
-    → (1 ≤ e) × (e ≤ length (decode_all s.args.trace.now.records.now)) × (2 * e ≤ length s.args.trace.now.records.now)
+    → (1 ≤ e) × (e ≤ length (decode_all s.args.trace.now.records.now))
+    × (2 * e ≤ length s.args.trace.now.records.now)
 event c {i} h is =
     let p = c.args.pattern.now in
     listed-event c.args.trace.now.records.now (numbers p) i c.requires (numbers_inside p h) is
 
 pub loop-i-init : goal.loop-i-init
-loop-i-init c = rw c.empty-frontier.ensures (before-start (decode_all c.args.trace.now.records.now) _ _ refl refl)
+loop-i-init c = rw c.empty-frontier.ensures (before-start (decode_all c.args.trace.now.records.now) _ _
+    refl refl)
 
 pub extend-requires : goal.extend-requires
 extend-requires c =

@@ -28,9 +28,11 @@ returns-in_err-decide c =
 pub returns-in-Some : goal.returns-in-Some
 returns-in-Some c =
     let (some, z) = rw (c.in-Some.is, c.read.ensures.events) at c.in_ok-decide.ensures in
-    rw some at (verdict_accepted c.args.recording.now c.args.pattern.now (is_passed _ _ c.in_ok-check.ensures))
+    rw some at (verdict_accepted c.args.recording.now c.args.pattern.now
+    (is_passed _ _ c.in_ok-check.ensures))
 
 pub returns-in-None : goal.returns-in-None
 returns-in-None c =
     let none = rw (c.in-None.is, c.read.ensures.events) at c.in_ok-decide.ensures in
-    rw none at (verdict_accepted c.args.recording.now c.args.pattern.now (is_passed _ _ c.in_ok-check.ensures))
+    rw none at (verdict_accepted c.args.recording.now c.args.pattern.now
+    (is_passed _ _ c.in_ok-check.ensures))

@@ -36,9 +36,11 @@ returns-in_err-deliver-in-Some c =
     let a = c.args in
     let (is, front) = rw c.in-Some.is at c.in_ok-decide.ensures in
     let delivered = c.in_err-deliver-in-Some.ensures in
-    let (x, y) = witness_from_deadlock (decode_all a.trace.now.records.now) a.pattern.now a.out.now is _ front in
+    let (x, y) = witness_from_deadlock (decode_all a.trace.now.records.now) a.pattern.now a.out.now is _
+    front in
     record {
-      answer = rw (passed_on c.from_residual-in_err-deliver-in-Some.result _ c.from_residual-in_err-deliver-in-Some.ensures.1)
+      answer = rw (passed_on c.from_residual-in_err-deliver-in-Some.result _
+          c.from_residual-in_err-deliver-in-Some.ensures.1)
           (ap (answer_by (Some Deadlock)) delivered.answer ∙ x);
       output = delivered.output ∙ y;
     }
@@ -48,5 +50,6 @@ returns-in_ok-deliver-in-Some c =
     let a = c.args in
     let (is, front) = rw c.in-Some.is at c.in_ok-decide.ensures in
     let delivered = c.in_ok-deliver-in-Some.ensures in
-    let (x, y) = witness_from_deadlock (decode_all a.trace.now.records.now) a.pattern.now a.out.now is _ front in
+    let (x, y) = witness_from_deadlock (decode_all a.trace.now.records.now) a.pattern.now a.out.now is _
+    front in
     record { answer = ap (answer_by (Some Deadlock)) delivered.answer ∙ x; output = delivered.output ∙ y }

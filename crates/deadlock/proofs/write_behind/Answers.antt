@@ -48,4 +48,5 @@ returns c =
     let σ = decode_all c.args.trace.now.records.now in
     let size = decode_all-length c.args.trace.now.records.now in
     let last : k.e ≡ length σ + 1 = omega (arith, c.loop-e-test.false, k.auto.e-end, c.len-e-end.ensures) in
-    k.invariant.1 ∙ ap (λ (e : ℕ). sets c.args.out.now 0 (encode (behind_below σ c.args.frontier.now.front e))) last
+    k.invariant.1 ∙ ap (λ (e : ℕ). sets c.args.out.now 0
+    (encode (behind_below σ c.args.frontier.now.front e))) last

@@ -53,6 +53,7 @@ returns-else-matching-f c =
 pub returns-in_default : goal.returns-in_default
 returns-in_default c =
     let u = unpacked (goal.at.returns-in_default c).Start _ _ c.operation.ensures refl in
-    let visited = other_visited u _ c.args.latest.now (code_apart _ Acquire c.in_default.not-Acquire) c.awaited.ensures
+    let visited = other_visited u _ c.args.latest.now (code_apart _ Acquire c.in_default.not-Acquire)
+    c.awaited.ensures
     c.want_event.ensures in
     record { wanted = visited.0; latest = visited.1 }

@@ -10,11 +10,7 @@ use Rattle.laws.proofs.Results.{passed_on, is_refused, is_passed}
 use Rattle.listing.proofs.Answers.{size_refused, size_permitted, list_unchecked, list_size, list_short}
 use Rattle.listing.proofs.Answers.{list_written}
 use Rattle.listing.proofs.list.Goals as goal
-use Rattle.listing.proofs.list.Goals.{In_ok-check, In_ok-size}
-
--- The recording is accepted.
-accepted : (c : In_ok-check) → (check c.args.recording.now).refusal ≡ 0
-accepted c = is_passed c.in_ok-check.field-0 _ c.in_ok-check.ensures
+use Rattle.listing.proofs.list.Goals.{In_ok-size}
 
 -- The size is permitted.
 permitted : (c : In_ok-size) → (c.in_ok-size.size ≡ largest_size c.args.largest)
@@ -34,13 +30,13 @@ pub returns-in_err-size : goal.returns-in_err-size
 returns-in_err-size c =
     let (q, p) = size_refused c.args.largest c.in_err-size.ensures in
     let (x, y) = list_size c.args.recording.now c.args.largest c.args.out.now
-    (accepted (goal.at.returns-in_err-size c).In_ok-check) p in
+    (is_passed _ _ c.in_ok-check.ensures) p in
     let given = passed_on c.from_residual-in_err-size.result (refusal c.in_err-size.field-0.0 0)
     c.from_residual-in_err-size.ensures.1 in
     record { answer = rw (given, q) (sym x); output = sym y }
 
 pub read-trace-requires : goal.read-trace-requires
-read-trace-requires c = accepted (goal.at.read-trace-requires c).In_ok-check
+read-trace-requires c = is_passed _ _ c.in_ok-check.ensures
 
 pub deliver-requires : goal.deliver-requires
 deliver-requires c =
@@ -52,7 +48,7 @@ returns-in-Ok c =
     let b = c.args.recording.now in
     let size = permitted (goal.at.returns-in-Ok c).In_ok-size in
     let (x, y) = list_written b c.args.largest c.args.out.now
-    (accepted (goal.at.returns-in-Ok c).In_ok-check) size.1 _
+    (is_passed _ _ c.in_ok-check.ensures) size.1 _
     (rw (← c.read-trace.ensures.events, ← c.new.ensures, ← size.0) c.in-Ok.ensures) in
     record { answer = x; output = y }
 
@@ -61,6 +57,6 @@ returns-in-Err c =
     let b = c.args.recording.now in
     let size = permitted (goal.at.returns-in-Err c).In_ok-size in
     let (x, y) = list_short b c.args.largest c.args.out.now
-    (accepted (goal.at.returns-in-Err c).In_ok-check) size.1 _
+    (is_passed _ _ c.in_ok-check.ensures) size.1 _
     (rw (← c.read-trace.ensures.events, ← c.new.ensures, ← size.0) c.in-Err.ensures) in
     record { answer = rw c.into.ensures (sym x); output = y }

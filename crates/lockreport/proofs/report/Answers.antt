@@ -13,7 +13,8 @@ front : (c : goal.In-Ok)
     × Entries (take c.in-Ok.listed.bytes c.list_pairs.new.out)
 front c =
     let l = c.in-Ok.ensures in
-    listed_front c.args.recording.now _ c.list_pairs.new.out 2 (listed_of (Ok c.in-Ok.listed)) l.answer l.output
+    listed_front c.args.recording.now _ c.list_pairs.new.out 2 (listed_of (Ok c.in-Ok.listed)) l.answer
+    l.output
     refl
 
 pub slice_bounds-out-end : goal.slice_bounds-out-end

@@ -8,7 +8,8 @@ use Rattle.pruning.proofs.ways_back.Goals as goal
 use Rattle.pruning.proofs.ways_back.Goals.{After-fill_back-back}
 
 -- The table has the ways back.
-filled : (c : After-fill_back-back) → Returning (decode_all c.args.trace.now.records.now) c.args.a c.args.count
+filled : (c : After-fill_back-back) → Returning (decode_all c.args.trace.now.records.now) c.args.a
+    c.args.count
     c.fill_back-back.result
 filled c =
     let b = c.args.trace.now.records.now in

@@ -4,7 +4,8 @@ use Rattle.words.proofs.Laws.{packed_start, packed_more, packed_end, row_clear}
 use Rattle.words.proofs.pack.Goals as goal
 
 pub loop-k-init : goal.loop-k-init
-loop-k-init c = packed_start c.args.set.now c.fill.new.self (row_clear 64 c.fill.new.self (λ k l. search rules))
+loop-k-init c = packed_start c.args.set.now c.fill.new.self
+    (row_clear 64 c.fill.new.self (λ k l. search rules))
 
 pub loop-k-preserved : goal.loop-k-preserved
 loop-k-preserved c =

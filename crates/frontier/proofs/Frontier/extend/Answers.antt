@@ -40,7 +40,8 @@ want_event-requires c =
 pub advance-requires : goal.advance-requires
 advance-requires c =
     rw (more (goal.at.advance-requires c).After-want_event)
-    (settled-wanted _ (events_sound c.args.trace.now.records.now c.args.trace.now.accepted) _ _ _ c.requires.0 _
+    (settled-wanted _ (events_sound c.args.trace.now.records.now c.args.trace.now.accepted) _ _ _
+    c.requires.0 _
     (known (goal.at.advance-requires c).Start))
 
 pub returns : goal.returns

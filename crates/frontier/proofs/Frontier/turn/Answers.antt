@@ -21,7 +21,8 @@ begun : (c : goal.After-begin-end) → let s =
     s.args.want.now c.begin-end.new.want s.args.self.now.latest s.args.t
     (get_or s.args.self.now.front s.args.t 0) c.begin-end.result (get_or s.args.want.now s.args.t 0)
 begun c =
-    turning_begin _ (events_sound c.args.trace.now.records.now c.args.trace.now.accepted) _ _ _ _ c.requires.0 c.requires.1
+    turning_begin _ (events_sound c.args.trace.now.records.now c.args.trace.now.accepted) _ _ _ _
+    c.requires.0 c.requires.1
     c.requires.2
     c.begin-end.ensures.0 c.begin-end.ensures.1
 
@@ -58,7 +59,8 @@ loop-f-preserved c =
     let k = c.loop-f.invariant in
     record {
       turning = rw (c.predecessor-f.ensures, v.wanted, v.latest)
-          (turning-step _ (events_sound c.args.trace.now.records.now c.args.trace.now.accepted) _ _ _ _ _ _ _ _
+          (turning-step _ (events_sound c.args.trace.now.records.now c.args.trace.now.accepted) _ _ _ _ _ _
+          _ _
           k.turning c.loop-f-test.true);
       front_is = k.front_is;
     }
