@@ -53,16 +53,6 @@ entry_more out path i h =
 
 -- ---- what is found
 
--- Nothing is found at the start.
-pub taken_start : (room : ℕ) (out : List ℕ) → Taken room [] out out (Ok (record { patterns = 0; bytes = 0 }))
-taken_start room out =
-    record {
-      long = refl;
-      counted = (refl, refl);
-      written = λ _. refl;
-      over = tt;
-    }
-
 -- Without patterns nothing is added.
 pub adds_none : (room : ℕ) (out : List ℕ) (f : Found) → Adds room [] out out f (Ok f)
 adds_none room out f = record { adds = λ ps out₀ t. rw (append-nil ps) t }

@@ -4,7 +4,7 @@ use mathlib.Core.Path.{◌≡◌, refl, ap, ◌∙◌}
 use mathlib.Core.Logic.{◌⊎◌, inl, inr, ⊎_elim, ◌≢◌}
 use mathlib.Core.List.{List}
 use native.Mathlib.Omega.{arith}
-use Rattle.std.specs.Prelude.{Result, Ok, Err, IfOk}
+use Rattle.std.specs.Prelude.{Ok, Err}
 use lib.ListN.{length, take, drop}
 use lib.Seq.{sets, take-append_seam}
 use borrow.Author.Tests.{eq-eqb, ne_eqb, le-leb, lt-leb}
@@ -20,7 +20,7 @@ use Rattle.laws.proofs.Tests.{equal?, at-most?}
 use Rattle.laws.proofs.Parts.{sets-written}
 use Rattle.entries.specs.declared.Found.{Found}
 use Rattle.entries.specs.declared.Full.{Full}
-use Rattle.entries.specs.Taken.{Taken, Roomy}
+use Rattle.entries.specs.Taken.{Taken}
 use Rattle.listing.specs.Delivered.{Delivered}
 use Rattle.listing.specs.Size.{asked_size}
 
@@ -86,11 +86,6 @@ size_permitted k {m} e =
 -- ---- what is delivered
 
 module _ (ps : List (List ℕ)) (out buffer₀ buffer : List ℕ) where
-  -- Entries that exceed the room are not written.
-  pub delivered-none : (x : Full) → Taken (length out) ps buffer₀ buffer (Err x)
-      → Delivered ps out out (Err x)
-  delivered-none x z = record { refused = (z.over, refl); counted = tt; written = tt }
-
   module _ (f : Found) (z : Taken (length out) ps buffer₀ buffer (Ok f)) (fits : f.bytes ≤ length out) where
     size : f.bytes ≡ length (entries ps)
     size = z.counted.1
@@ -112,16 +107,6 @@ module _ (ps : List (List ℕ)) (out buffer₀ buffer : List ℕ) where
               sets-written (entries ps) buffer₀ (omega (arith, size)),
             )
             (take-append_seam (entries ps) (drop (length (entries ps)) buffer₀))
-
-    -- Entries that do not fit it are found again, and written.
-    pub delivered-again : (out' : List ℕ) (r : Result Found Full) → Taken (length out) ps out out' r
-        → IfOk r (Roomy (length out)) → Delivered ps out out' r
-    delivered-again out' (Ok g) w b = record {
-      refused = tt;
-      counted = w.counted;
-      written = (omega (arith, size, fits), w.written (omega (arith, w.long, b.bytes_le)));
-    }
-    delivered-again out' (Err x) w b = absurd (omega (arith, w.over, size, fits))
 
 -- ---- the call
 

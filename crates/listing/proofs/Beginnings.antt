@@ -19,7 +19,7 @@ use Rattle.laws.specs.Walk.{beginning}
 use Rattle.entries.specs.declared.Found.{Found}
 use Rattle.entries.specs.declared.Full.{Full}
 use Rattle.entries.specs.Taken.{Taken, Adds, Roomy}
-use Rattle.entries.proofs.Laws.{taken_start, taken_over}
+use Rattle.entries.proofs.Laws.{taken_over}
 use Rattle.pruning.specs.Linked.{is_nested, Link, Unreturned, WaysBack}
 use Rattle.pruning.proofs.Nested.{acquire_free}
 use Rattle.laws.proofs.Lists.{from_split}
@@ -55,15 +55,6 @@ pub beginning_free : (σ : Trace) (k e : ℕ) → is_nested σ e ≡ false → b
 beginning_free σ k e n =
     decided (is_acquire σ e) (λ y. beginning-unheld σ k e (acquire_free σ e (rw y tt) n)) (beginning-none σ k
     e)
-
--- At first nothing is taken.
-pub searching-start : {σ : Trace} {k room : ℕ} {out : List ℕ}
-    → Searching σ k room 0 out out (record { patterns = 0; bytes = 0 })
-searching-start {σ} {k} {room} {out} = record {
-  high = omega arith;
-  roomy = record { bytes_le = omega arith; patterns_le = omega arith };
-  taken = taken_start room out;
-}
 
 module _ {σ : Trace} {k room at : ℕ} {out₀ out : List ℕ} {f : Found}
     (z : Searching σ k room at out₀ out f) where
