@@ -3,7 +3,7 @@
 #![tactic(auto)]
 
 ghost use Rattle.std.specs.Prelude.{◌+◌, ◌*◌, ◌-◌, ◌/◌, ◌<◌, ◌≤◌, ◌≡◌, false, true, cond, ◌||◌, ◌≢◌, T, eqb};
-ghost use Rattle.std.specs.Prelude.{length, get_or, OnOk};
+ghost use Rattle.std.specs.Prelude.{length, get_or, OnOk, IfOk};
 ghost use Rattle.std.proofs.lemmas.List.Edits.{sets};
 ghost use Rattle.model.specs.Refused.{refusal};
 ghost use Rattle.model.specs.Answers.{fault_of, outcome_of};
@@ -11,7 +11,7 @@ ghost use Rattle.model.specs.Lists.{has_bit};
 ghost use Rattle.model.specs.Bytes.{numbers, two_bytes};
 ghost use Rattle.model.specs.Trace.{tasks, locks, sync_objects, variables, at, task, object, enters, leaves};
 ghost use Rattle.model.specs.Tasks.{target, is_start, is_join};
-ghost use Rattle.model.specs.Recording.{decode_all, event_count};
+ghost use Rattle.model.specs.Recording.{decode_all, event_count, trace};
 ghost use Rattle.model.specs.Relations.{holds};
 ghost use Rattle.model.specs.WellFormed.{is_free, is_new, is_over, fault};
 ghost use Rattle.model.specs.Calls.Check.{check_events, check};
@@ -29,6 +29,14 @@ pub enum Op {
     Write = 1,
     Acquire = 2,
     Release = 3,
+}
+
+// An accepted recording's records.
+#[derive(Clone, Copy)]
+pub struct Records<'a> {
+    pub bytes: &'a [u8],
+    ghost short: { length bytes.now ≤ records_length },
+    ghost accepted: { (check_events (decode_all bytes.now)).refusal ≡ 0 },
 }
 
 // Who holds each lock: the task plus 1, or 0, and how deep it is in it, or 1 without a holder.
@@ -389,4 +397,25 @@ pub fn check(recording: &[u8]) -> Result<(), Refusal>
         return Err(Question::Length.into());
     }
     check_events(&recording[2..])
+}
+
+impl<'a> Records<'a> {
+    // Reads a recording: its records, if it is accepted.
+    pub fn read(recording: &'a [u8]) -> Result<Records<'a>, Refusal>
+        ensures outcome { outcome_of result ≡ check recording.now }
+        ensures events { IfOk result (λ r. decode_all r.bytes.now ≡ trace recording.now) }
+    {
+        check(recording)?;
+        Ok(Records {
+            bytes: &recording[2..],
+        })
+    }
+
+    // How many events there are.
+    pub fn len(&self) -> usize
+        ensures { (result < table_length) × (result ≡ length (decode_all self.now.bytes.now))
+            × (2 * result ≤ length self.now.bytes.now) }
+    {
+        self.bytes.len() / 2
+    }
 }
