@@ -141,7 +141,7 @@ module _ (σ : Trace) (e : ℕ) (frontier base : Frontier) (old : Grown)
     where
       again : old.of ≡ Some (task σ e) → Before σ (p ++ e ∷ []) front latest
       again q =
-          let (d, low, less, same, before) = z.again (task σ e) q in
+          let (d, low, less, same, before) = z.again q in
           before-again σ ok p old.frontier.front old.frontier.latest d e front latest before low less same
           (events_inside σ (p ++ e ∷ []) (path_more σ p e t h l)) (rw (kept q) at a)
 
@@ -149,31 +149,42 @@ module _ (σ : Trace) (e : ℕ) (frontier base : Frontier) (old : Grown)
       anew d =
           before-extend σ ok p frontier.front frontier.latest e front latest b h l (rw (copied d) at a)
 
--- No frontier is kept at first.
-pub reusable_none : {σ : Trace} {p : List ℕ} {e : ℕ} {grown : Grown} → grown.of ≡ None
+-- The frontier of the last attempt, if there was one, is that of the predecessors of the events p and of an
+-- event before e, whose task is the one noted.
+pub record Remembered (σ : Trace) (p : List ℕ) (e : ℕ) (grown : Grown) : Type 0 where
+  pub again : (t : ℕ) → grown.of ≡ Some t → (d : ℕ) × (1 ≤ d) × (d < e) × (task σ d ≡ t)
+      × Before σ (p ++ d ∷ []) grown.frontier.front grown.frontier.latest
+
+-- It may then be extended to that of e.
+pub remembered : {σ : Trace} {p : List ℕ} {e : ℕ} {grown : Grown} → Remembered σ p e grown
     → Reusable σ p e grown
-reusable_none n = record { again = λ t q. cc }
+remembered {σ} {p} {e} z = record { again = z.again (task σ e) }
+
+-- No frontier is kept at first.
+pub remembered_none : {σ : Trace} {p : List ℕ} {e : ℕ} {grown : Grown} → grown.of ≡ None
+    → Remembered σ p e grown
+remembered_none n = record { again = λ t q. cc }
 
 -- One that is kept may be extended to that of any later event.
-pub reusable_later : {σ : Trace} {p : List ℕ} {d e : ℕ} {grown : Grown} → d ≤ e → Reusable σ p d grown
-    → Reusable σ p e grown
-reusable_later h z = record {
+pub remembered_later : {σ : Trace} {p : List ℕ} {d e : ℕ} {grown : Grown} → d ≤ e → Remembered σ p d grown
+    → Remembered σ p e grown
+remembered_later h z = record {
   again = λ t q. let (f, low, less, own, before) = z.again t q in (f, low, omega arith, own, before);
 }
 
 -- After an attempt it is that of the event, unless this was skipped.
-pub reusable_next : {σ : Trace} {k : ℕ} {c : Chain} {e : ℕ} {r : Trial} {old new : Grown} → 1 ≤ e
-    → Reusable σ c.events e old → Attempted σ k c e r old new → Reusable σ c.events (suc e) new
-reusable_next {σ} {k} {c} {e} {r} {old} {new} h z a = cases r a
+pub remembered_next : {σ : Trace} {k : ℕ} {c : Chain} {e : ℕ} {r : Trial} {old new : Grown} → 1 ≤ e
+    → Remembered σ c.events e old → Attempted σ k c e r old new → Remembered σ c.events (suc e) new
+remembered_next {σ} {k} {c} {e} {r} {old} {new} h z a = cases r a
   where
-    newest : {m : Trial} → Attempted σ k c e m old new → m ≢ Skipped → Reusable σ c.events (suc e) new
+    newest : {m : Trial} → Attempted σ k c e m old new → m ≢ Skipped → Remembered σ c.events (suc e) new
     newest a n = record {
       again = λ t q. let same = a.own n in
           let u : task σ e ≡ t = cc in (e, h, omega arith, u, a.grows n);
     }
 
-    cases : (m : Trial) → Attempted σ k c e m old new → Reusable σ c.events (suc e) new
+    cases : (m : Trial) → Attempted σ k c e m old new → Remembered σ c.events (suc e) new
     cases Success a = newest a (λ q. cc)
     cases Failure a = newest a (λ q. cc)
     cases TaskFailure a = newest a (λ q. cc)
-    cases Skipped a = rw (a.unchanged refl) (reusable_later (omega arith) z)
+    cases Skipped a = rw (a.unchanged refl) (remembered_later (omega arith) z)

@@ -18,10 +18,10 @@ use Rattle.chain.specs.declared.Trial.TheVariants.{Success, TaskFailure, Skipped
 abbrev pub chain_of : Path → Chain
 chain_of path = of_events (take path.len path.events) path.chain
 
--- The frontier of the last attempt, if there was one, is that of the predecessors of the events p and of an
--- event before e, whose task is the one noted.
+-- The frontier of the last attempt, where this was at an event of the task of e, is that of the predecessors
+-- of the events p and of an event of this task before e.
 pub record Reusable (σ : Trace) (p : List ℕ) (e : ℕ) (grown : Grown) : Type 0 where
-  pub again : (t : ℕ) → grown.of ≡ Some t → (d : ℕ) × (1 ≤ d) × (d < e) × (task σ d ≡ t)
+  pub again : grown.of ≡ Some (task σ e) → (d : ℕ) × (1 ≤ d) × (d < e) × (task σ d ≡ task σ e)
       × Before σ (p ++ d ∷ []) grown.frontier.front grown.frontier.latest
 
 -- Event e after a chain: with success they make a deadlock so far; otherwise e adds nothing, and where

@@ -4,7 +4,6 @@ use Prim.Native.Nat.{◌≤◌}
 use mathlib.Core.Path.{◌≡◌, sym}
 use Rattle.model.specs.Refused.{refusal}
 use Rattle.model.specs.Calls.Questions.{outcome, permits_size}
-use Rattle.model.specs.Calls.Check.{check}
 use Rattle.model.specs.Calls.List.{largest_size}
 use Rattle.laws.proofs.Results.{passed_on, is_refused, is_passed}
 use Rattle.listing.proofs.Answers.{size_refused, size_permitted, list_unchecked, list_size, list_short}

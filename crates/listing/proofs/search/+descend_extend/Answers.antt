@@ -9,7 +9,7 @@ use Rattle.model.specs.Trace.{is_acquire}
 use Rattle.model.specs.Recording.{decode_all}
 use Rattle.laws.proofs.Trace.{decode_all-length}
 use Rattle.laws.proofs.Results.{passed_on}
-use Rattle.chain.proofs.Laws.{reusable_none, reusable_later, reusable_next}
+use Rattle.chain.proofs.Laws.{remembered, remembered_none, remembered_later, remembered_next}
 use Rattle.listing.proofs.Paths.{returning_fewer, open_with}
 use Rattle.listing.proofs.Scans.{scanning-start, scanning_event, scanning_acquire, scanning_adds}
 use Rattle.listing.proofs.Scans.{scanning_drops, scanning_over, scanning-next, scanning_end}
@@ -34,7 +34,7 @@ descend-closes-requires t c =
 pub extend-loop-e-init : goal.extend-loop-e-init
 extend-loop-e-init t c = record {
   scanning = scanning-start c.requires.0.traced.first_event.1 c.requires.2;
-  kept = reusable_none c.new-grown.ensures;
+  kept = remembered_none c.new-grown.ensures;
 }
 
 pub extend-following-requires : goal.extend-following-requires
@@ -58,7 +58,7 @@ extend-attempt-met-requires t c =
       o.traced.events,
       omega (arith, o.sized, search.sized, c.args.path.now.sized),
       o.before,
-      reusable_later (y.passes d).0 c.loop-e.invariant.kept,
+      remembered (remembered_later (y.passes d).0 c.loop-e.invariant.kept),
       low,
       high,
       acquires,
@@ -107,7 +107,7 @@ extend-loop-e-preserved-in-Success t c =
       scanning = scanning-next z d y c.requires.0.traced.rooted tried c.exclude-chain.ensures
           (scanning_adds z d y tried c.in-Success.is _ c.with.ensures.chain done.adds) done.roomy;
       kept =
-          reusable_next (scanning_event z d y).0 (reusable_later (y.passes d).0 c.loop-e.invariant.kept)
+          remembered_next (scanning_event z d y).0 (remembered_later (y.passes d).0 c.loop-e.invariant.kept)
           tried;
     }
 
@@ -120,7 +120,7 @@ extend-loop-e-preserved t c =
       scanning = scanning-next z d y rooted tried c.exclude-chain.ensures
           (scanning_drops z d y tried c.in_default-met.not-Success rooted) z.roomy;
       kept =
-          reusable_next (scanning_event z d y).0 (reusable_later (y.passes d).0 c.loop-e.invariant.kept)
+          remembered_next (scanning_event z d y).0 (remembered_later (y.passes d).0 c.loop-e.invariant.kept)
           tried;
     }
 

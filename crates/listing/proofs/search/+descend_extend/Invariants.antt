@@ -3,7 +3,8 @@
 use Prim.Native.Nat.{suc, ◌+◌, ◌-◌, ◌*◌}
 use lib.ListN.{length}
 use Rattle.model.specs.Recording.{decode_all}
-use Rattle.chain.specs.Attempted.{chain_of, Reusable}
+use Rattle.chain.specs.Attempted.{chain_of}
+use Rattle.chain.proofs.Laws.{Remembered}
 use Rattle.listing.proofs.Scans.{Scanning}
 use Rattle.listing.proofs.search.+descend_extend.Given as goal
 
@@ -20,7 +21,7 @@ abbrev pub invariant-extend-loop-e : goal.invariant-extend-loop-e
 invariant-extend-loop-e l = record {
   scanning : Scanning (decode_all l.search.links.now.trace.now.records.now) (l.left - 1) (chain_of l.path)
       l.search.room l.chain l.at l.initial.out l.out l.initial.taken l.taken;
-  kept : Reusable (decode_all l.search.links.now.trace.now.records.now) (chain_of l.path).events (suc l.at)
+  kept : Remembered (decode_all l.search.links.now.trace.now.records.now) (chain_of l.path).events (suc l.at)
       l.grown;
 }
 
