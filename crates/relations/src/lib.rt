@@ -4,9 +4,9 @@
 
 ghost use Rattle.std.specs.Prelude.{ℕ, ◌+◌, ◌*◌, ◌<◌, ◌≤◌, ◌≡◌, cond, eqb, length, get_or, Ok};
 ghost use Rattle.model.specs.Trace.{tasks, variables, at, task, object};
-ghost use Rattle.model.specs.Recording.{decode_all, event_count, trace};
+ghost use Rattle.model.specs.Recording.{decode_all};
 ghost use Rattle.model.specs.Relations.{held, predecessor};
-ghost use Rattle.model.specs.Calls.Check.{check_events, check};
+ghost use Rattle.model.specs.Calls.Check.{check_events};
 ghost use Rattle.model.specs.Calls.Relations.{relations};
 ghost use Rattle.model.specs.Answers.{relations_of};
 ghost use Rattle.laws.specs.Sizes.{records_length, table_length};
@@ -19,7 +19,7 @@ ghost use Rattle.relations.specs.Tables.{row, IsRow, Tabled, Noted, Walked};
 
 use model::{Question, Refusal, Related};
 use order::Latest;
-use recording::Op;
+use recording::{Op, Records};
 use sections::{Kind, OpenSections};
 
 // An accepted recording: its records, and tables of what its events' relations are.
@@ -129,13 +129,10 @@ fn writer_of(operation: Op, awaited: u16) -> u64
 }
 
 impl<'a> Trace<'a> {
-    // An accepted recording.
-    pub fn read(recording: &'a [u8]) -> Trace<'a>
-        requires { (check recording.now).refusal ≡ 0 }
-        ensures events { decode_all result.records.now ≡ trace recording.now }
-        ensures length { length result.records.now ≡ 2 * event_count recording.now }
+    // An accepted recording, with its tables.
+    pub fn new(records: &Records<'a>) -> Trace<'a>
+        ensures { result.records.now ≡ records.now.bytes.now }
     {
-        let records = &recording[2..];
         let blank = Row {
             held: 0,
             predecessor: 0,
@@ -146,8 +143,11 @@ impl<'a> Trace<'a> {
             rows: [blank; 4096],
             starts: [0; 16],
         };
-        tables.fill(records);
-        Trace { records, tables }
+        tables.fill(records.bytes);
+        Trace {
+            records: records.bytes,
+            tables,
+        }
     }
 
     // How many events there are.
@@ -242,10 +242,10 @@ impl<'a> Trace<'a> {
 pub fn relations(recording: &[u8], event: u64) -> Result<Related, Refusal>
     ensures { relations_of result ≡ relations recording.now event }
 {
-    recording::check(recording)?;
-    let n = recording::event_count(recording);
-    if event == 0 || (n as u64) < event {
+    let records = Records::read(recording)?;
+    let n = records.len() as u64;
+    if event == 0 || n < event {
         return Err(Question::EventNumber.into());
     }
-    Ok(Trace::read(recording).related(event as usize))
+    Ok(Trace::new(&records).related(event as usize))
 }
