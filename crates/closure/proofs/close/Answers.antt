@@ -1,7 +1,7 @@
 -- `closure::close` meets its contract: the recording's questions, 11 and 12, then the set is closed.
 -- Assumes nothing.
-use Prim.Native.Nat.{ℕ, suc, ◌-◌, ◌*◌}
-use mathlib.Core.Path.{◌≡◌, sym, ap, ◌∙◌}
+use Prim.Native.Nat.{suc, ◌-◌, ◌*◌}
+use mathlib.Core.Path.{◌≡◌, sym, ◌∙◌}
 use mathlib.Core.Bool.{not}
 use native.Mathlib.Numerals.{add-one}
 use lib.ListN.{length}
@@ -20,9 +20,7 @@ counted c = rw c.in_ok-records.ensures.events at c.len-n.ensures.1
 -- The lent set has the length of a set.
 sized : (c : goal.Else-set-n)
     → length c.args.set.now ≡ set_length (length (trace c.args.recording.now))
-sized c =
-    let long : length c.args.set.now ≡ set_length c.len-n.result = c.if-set-n.false in
-    long ∙ ap set_length (counted (goal.at.Else-set-n c).After-len-n)
+sized c = rw (← counted (goal.at.Else-set-n c).After-len-n) c.if-set-n.false
 
 -- The bits after the last event are asked for.
 is-clear : (c : goal.After-spare_clear)
@@ -46,10 +44,9 @@ returns-in_err-records c =
 pub returns-then-set-n : goal.returns-then-set-n
 returns-then-set-n c =
     let a = c.args in
-    let size = counted (goal.at.returns-then-set-n c).After-len-n in
     let (x, y) =
     close-length a.recording.now a.set.now (is_passed _ c.in_ok-records.ensures.outcome)
-    (λ q. c.if-set-n.true (q ∙ ap set_length (sym size))) in
+    (rw (← counted (goal.at.returns-then-set-n c).After-len-n) c.if-set-n.true) in
     record { answer = rw c.into.ensures (sym x); output = sym y }
 
 pub returns-then-not-spare_clear : goal.returns-then-not-spare_clear
@@ -66,7 +63,8 @@ pub close_set-requires : goal.close_set-requires
 close_set-requires c =
     let yes = sym (is-clear (goal.at.close_set-requires c).After-spare_clear)
     ∙ c.if-not-spare_clear.false in
-    rw (c.new.ensures, c.in_ok-records.ensures.events) (sized (goal.at.close_set-requires c).Else-set-n, rw yes tt)
+    rw (c.new.ensures, c.in_ok-records.ensures.events)
+    (sized (goal.at.close_set-requires c).Else-set-n, rw yes tt)
 
 pub returns : goal.returns
 returns c =
@@ -75,10 +73,8 @@ returns c =
     let yes = sym (is-clear (goal.at.returns c).After-spare_clear) ∙ c.if-not-spare_clear.false in
     let (x, y) = close_closed b a.set.now (is_passed _ c.in_ok-records.ensures.outcome)
     (sized (goal.at.returns c).Else-set-n) yes in
-    let added = rw (c.new.ensures, c.in_ok-records.ensures.events) at c.close_set.ensures.answer in
-    let bytes = rw (c.new.ensures, c.in_ok-records.ensures.events) at c.close_set.ensures.output in
+    let events = rw (← c.new.ensures) at c.in_ok-records.ensures.events in
     record {
-      answer =
-          ap (λ (m : ℕ). record { refusal = 0; event = 0; added = m }) added ∙ sym x;
-      output = bytes ∙ sym y;
+      answer = rw (c.close_set.ensures.answer, events) (sym x);
+      output = (rw events at c.close_set.ensures.output) ∙ sym y;
     }

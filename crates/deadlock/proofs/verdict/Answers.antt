@@ -15,7 +15,8 @@ returns-in_err-records c =
 pub returns-in_err-decide : goal.returns-in_err-decide
 returns-in_err-decide c =
     let (q, none) = rw (c.new.ensures, c.in_ok-records.ensures.events) at c.in_err-decide.ensures in
-    let is = verdict_accepted c.args.recording.now c.args.pattern.now (is_passed _ c.in_ok-records.ensures.outcome) in
+    let is = verdict_accepted c.args.recording.now c.args.pattern.now
+    (is_passed _ c.in_ok-records.ensures.outcome) in
     rw (
       passed_on c.from_residual-in_err-decide.result (refusal c.in_err-decide.field-0.0 0)
           c.from_residual-in_err-decide.ensures.1,
@@ -24,12 +25,14 @@ returns-in_err-decide c =
 
 pub returns-in-Some : goal.returns-in-Some
 returns-in-Some c =
-    let (some, z) = rw (c.in-Some.is, c.new.ensures, c.in_ok-records.ensures.events) at c.in_ok-decide.ensures in
+    let (some, z) = rw (c.in-Some.is, c.new.ensures, c.in_ok-records.ensures.events)
+    at c.in_ok-decide.ensures in
     rw some at (verdict_accepted c.args.recording.now c.args.pattern.now
     (is_passed _ c.in_ok-records.ensures.outcome))
 
 pub returns-in-None : goal.returns-in-None
 returns-in-None c =
-    let none = rw (c.in-None.is, c.new.ensures, c.in_ok-records.ensures.events) at c.in_ok-decide.ensures in
+    let none = rw (c.in-None.is, c.new.ensures, c.in_ok-records.ensures.events)
+    at c.in_ok-decide.ensures in
     rw none at (verdict_accepted c.args.recording.now c.args.pattern.now
     (is_passed _ c.in_ok-records.ensures.outcome))

@@ -20,8 +20,8 @@ returns c =
     let a = c.args in
     let (x, y) =
     witness_accepted a.recording.now a.pattern.now a.out.now (is_passed _ c.in_ok-records.ensures.outcome) in
-    let w = c.witness_trace.ensures in
+    let events = rw (← c.new.ensures) at c.in_ok-records.ensures.events in
     record {
-      answer = (rw (c.new.ensures, c.in_ok-records.ensures.events) at w.answer) ∙ sym x;
-      output = (rw (c.new.ensures, c.in_ok-records.ensures.events) at w.output) ∙ sym y;
+      answer = (rw events at c.witness_trace.ensures.answer) ∙ sym x;
+      output = (rw events at c.witness_trace.ensures.output) ∙ sym y;
     }

@@ -45,7 +45,8 @@ returns-in-Ok c =
     let size = permitted (goal.at.returns-in-Ok c).In_ok-size in
     let (x, y) = list_written b c.args.largest c.args.out.now
     (is_passed _ c.in_ok-records.ensures.outcome) size.1 _
-    (rw (← c.in_ok-records.ensures.events, ← c.new-trace.ensures, ← c.new.ensures, ← size.0) c.in-Ok.ensures) in
+    (rw (← c.in_ok-records.ensures.events, ← c.new-trace.ensures, ← c.new.ensures, ← size.0)
+    c.in-Ok.ensures) in
     record { answer = x; output = y }
 
 pub returns-in-Err : goal.returns-in-Err
@@ -54,5 +55,6 @@ returns-in-Err c =
     let size = permitted (goal.at.returns-in-Err c).In_ok-size in
     let (x, y) = list_short b c.args.largest c.args.out.now
     (is_passed _ c.in_ok-records.ensures.outcome) size.1 _
-    (rw (← c.in_ok-records.ensures.events, ← c.new-trace.ensures, ← c.new.ensures, ← size.0) c.in-Err.ensures) in
+    (rw (← c.in_ok-records.ensures.events, ← c.new-trace.ensures, ← c.new.ensures, ← size.0)
+    c.in-Err.ensures) in
     record { answer = rw c.into.ensures (sym x); output = y }

@@ -14,7 +14,9 @@ use Rattle.load.proofs.depth_after.Goals.{Start, In-Release}
 
 -- The event that comes.
 coming : (c : goal.Start) → let a = c.args in Coming (decode_all a.records.now.bytes.now) a.e a.lock a.depth
-coming c = record { sound = events_sound c.args.records.now.bytes.now c.args.records.now.accepted; depth_is = c.requires.2 }
+coming c =
+    let records = c.args.records.now in
+    record { sound = events_sound records.bytes.now records.accepted; depth_is = c.requires.2 }
 
 -- What a release does.
 back : (c : goal.In-Release) → let a = c.args in
