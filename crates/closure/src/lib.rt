@@ -17,6 +17,7 @@ ghost use Rattle.closure.specs.Reach.{Closes};
 
 use frontier::Frontier;
 use model::{Question, Refusal};
+use recording::Records;
 use relations::Trace;
 
 // The bit of event e is set in the bytes of a lent set.
@@ -103,13 +104,13 @@ pub fn close(recording: &[u8], set: &mut [u8]) -> Result<u64, Refusal>
     ensures answer { closed_of result ≡ close recording.now set.old }
     ensures output { set.new ≡ close_out recording.now set.old }
 {
-    recording::check(recording)?;
-    let n = recording::event_count(recording);
+    let records = Records::read(recording)?;
+    let n = records.len();
     if set.len() != (n + 7) / 8 {
         return Err(Question::SetLength.into());
     }
     if !spare_clear(set, n) {
         return Err(Question::SpareBits.into());
     }
-    Ok(close_set(&Trace::read(recording), set))
+    Ok(close_set(&Trace::new(&records), set))
 }

@@ -23,7 +23,7 @@ ghost use Rattle.deadlock.specs.Delivered.{delivered, delivered_out, witness_fro
 
 use frontier::Frontier;
 use model::{Question, Refusal, Verdict};
-use recording::Op;
+use recording::{Op, Records};
 use relations::Trace;
 
 // A chain of outer acquires, by what decides which event may follow: its first and its last one, and the
@@ -260,8 +260,8 @@ pub fn decide(trace: &Trace, pattern: &[u8]) -> Result<Option<Frontier>, Questio
 pub fn verdict(recording: &[u8], pattern: &[u8]) -> Result<Verdict, Refusal>
     ensures { verdict_of result ≡ verdict recording.now pattern.now }
 {
-    recording::check(recording)?;
-    match decide(&Trace::read(recording), pattern)? {
+    let records = Records::read(recording)?;
+    match decide(&Trace::new(&records), pattern)? {
         Some(_) => Ok(Verdict::Deadlock),
         None => Ok(Verdict::Not),
     }
@@ -347,6 +347,6 @@ pub fn witness(recording: &[u8], pattern: &[u8], out: &mut [u8]) -> Result<Optio
     ensures answer { witness_of result ≡ witness recording.now pattern.now (length out.old) }
     ensures output { out.new ≡ witness_out recording.now pattern.now out.old }
 {
-    recording::check(recording)?;
-    witness_trace(&Trace::read(recording), pattern, out)
+    let records = Records::read(recording)?;
+    witness_trace(&Trace::new(&records), pattern, out)
 }

@@ -16,6 +16,7 @@ ghost use Rattle.listing.specs.Size.{asked_size};
 use entries::{Found, Full};
 use model::{Entries, Question, Refusal};
 use pruning::Links;
+use recording::Records;
 use relations::Trace;
 
 // Lists the deadlocks of at most `largest` events into the output, where all their entries fit it; else it
@@ -51,9 +52,9 @@ pub fn list(recording: &[u8], largest: u64, out: &mut [u8]) -> Result<Entries, R
     ensures answer { listed_of result ≡ list recording.now largest (length out.old) }
     ensures output { out.new ≡ list_out recording.now largest out.old }
 {
-    recording::check(recording)?;
+    let records = Records::read(recording)?;
     let size = size_of(largest)?;
-    let trace = Trace::read(recording);
+    let trace = Trace::new(&records);
     match deliver(&Links::new(&trace), size, out) {
         Ok(found) => Ok(Entries {
             patterns: found.patterns as u64,

@@ -5,25 +5,23 @@ ghost use Rattle.std.specs.Prelude.{◌+◌, ◌*◌, ◌<◌, ◌≤◌, ◌≡
 ghost use Rattle.model.specs.Answers.{load_of};
 ghost use Rattle.model.specs.Trace.{locks};
 ghost use Rattle.model.specs.Recording.{decode_all};
-ghost use Rattle.model.specs.Calls.Check.{check_events};
 ghost use Rattle.model.specs.Calls.Load.{held_events, percent, load};
-ghost use Rattle.laws.specs.Sizes.{records_length, table_length};
+ghost use Rattle.laws.specs.Sizes.{table_length};
 ghost use Rattle.laws.specs.Walked.{LockDepth};
 
 use model::{Question, Refusal};
-use recording::Op;
+use recording::{Op, Records};
 
 // The depth of the lock after event e, given that before it, which is below e.
-fn depth_after(records: &[u8], e: usize, lock: u64, depth: u16) -> u16
-    requires { (1 ≤ e) × (2 * e ≤ length records.now) × (length records.now ≤ records_length)
-        × ((check_events (decode_all records.now)).refusal ≡ 0)
-        × LockDepth (decode_all records.now) e lock depth × (lock < locks) }
-    ensures { LockDepth (decode_all records.now) (e + 1) lock result }
+fn depth_after(records: &Records, e: usize, lock: u64, depth: u16) -> u16
+    requires { (1 ≤ e) × (2 * e ≤ length records.now.bytes.now)
+        × LockDepth (decode_all records.now.bytes.now) e lock depth × (lock < locks) }
+    ensures { LockDepth (decode_all records.now.bytes.now) (e + 1) lock result }
 {
-    if recording::object(records, e) as u64 != lock {
+    if recording::object(records.bytes, e) as u64 != lock {
         return depth;
     }
-    match recording::operation(records, e) {
+    match recording::operation(records.bytes, e) {
         Op::Read | Op::Write => depth,
         Op::Acquire => depth + 1,
         Op::Release => depth - 1,
@@ -31,15 +29,14 @@ fn depth_after(records: &[u8], e: usize, lock: u64, depth: u16) -> u16
 }
 
 // How many events there are after which some task holds the lock.
-fn count_held(records: &[u8], lock: u64) -> u64
-    requires { (length records.now ≤ records_length)
-        × ((check_events (decode_all records.now)).refusal ≡ 0) × (lock < locks) }
+fn count_held(records: &Records, lock: u64) -> u64
+    requires { lock < locks }
     ensures { (result < table_length)
-        × (result ≡ held_events (decode_all records.now) lock) }
+        × (result ≡ held_events (decode_all records.now.bytes.now) lock) }
 {
     let mut depth = 0u16;
     let mut held = 0;
-    for e in 1..records.len() / 2 + 1 {
+    for e in 1..records.len() + 1 {
         depth = depth_after(records, e, lock, depth);
         if depth != 0 {
             held += 1;
@@ -76,11 +73,10 @@ fn percentage(h: u64, n: u64) -> u64
 pub fn load(recording: &[u8], lock: u64) -> Result<u64, Refusal>
     ensures { load_of result ≡ load recording.now lock }
 {
-    recording::check(recording)?;
+    let records = Records::read(recording)?;
     if 64 <= lock {
         return Err(Question::LockNumber.into());
     }
-    let n = recording::event_count(recording);
-    let held = count_held(&recording[2..], lock);
-    Ok(percentage(held, n as u64))
+    let n = records.len() as u64;
+    Ok(percentage(count_held(&records, lock), n))
 }

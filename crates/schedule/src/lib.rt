@@ -15,7 +15,7 @@ ghost use Rattle.schedule.specs.Listed.{Kept, Listed, answered};
 ghost use Rattle.schedule.specs.Next.{is_listed, is_ready, is_next, is_unlocked};
 
 use model::{Question, Refusal};
-use recording::Op;
+use recording::{Op, Records};
 use relations::Trace;
 
 // What is listed: of each task the latest listed event, of each lock the latest listed outer acquire, and of
@@ -197,6 +197,6 @@ fn decide(trace: &Trace, pattern: &[u8], schedule: &[u8]) -> Option<bool>
 pub fn check_schedule(recording: &[u8], pattern: &[u8], schedule: &[u8]) -> Result<bool, Refusal>
     ensures { checked_of result ≡ check_schedule recording.now pattern.now schedule.now }
 {
-    recording::check(recording)?;
-    decide(&Trace::read(recording), pattern, schedule).ok_or(Question::Pattern.into())
+    let records = Records::read(recording)?;
+    decide(&Trace::new(&records), pattern, schedule).ok_or(Question::Pattern.into())
 }

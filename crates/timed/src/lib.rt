@@ -14,6 +14,7 @@ ghost use Rattle.model.specs.Calls.CheckSchedule.{check_schedule};
 
 use frontier::Frontier;
 use model::Question;
+use recording::Records;
 use relations::Trace;
 
 // Checks a recording: its refusal.
@@ -57,8 +58,8 @@ pub extern "C" fn timed_tables(recording: &[u8]) -> u64
     ensures { cond (is_accepted (check recording.now)) 0 result
         ≡ (check recording.now).refusal }
 {
-    match recording::check(recording) {
-        Ok(()) => compare_entries(&Trace::read(recording)),
+    match Records::read(recording) {
+        Ok(records) => compare_entries(&Trace::new(&records)),
         Err(refusal) => refusal.question.number(),
     }
 }
@@ -76,8 +77,8 @@ fn decide_often(trace: &Trace, pattern: &[u8], rounds: u64) -> Result<Option<Fro
 // pattern or no accepted recording, 1 for "not", 2 for deadlock.
 #[unsafe(no_mangle)]
 pub extern "C" fn timed_verdicts(recording: &[u8], pattern: &[u8], rounds: u64) -> u64 {
-    let decided = match recording::check(recording) {
-        Ok(()) => decide_often(&Trace::read(recording), pattern, rounds),
+    let decided = match Records::read(recording) {
+        Ok(records) => decide_often(&Trace::new(&records), pattern, rounds),
         Err(refusal) => Err(refusal.question),
     };
     match decided {

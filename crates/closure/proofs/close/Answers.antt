@@ -1,31 +1,26 @@
 -- `closure::close` meets its contract: the recording's questions, 11 and 12, then the set is closed.
 -- Assumes nothing.
-use Prim.Native.Nat.{ℕ, suc, ◌-◌, ◌*◌}
-use mathlib.Core.Path.{◌≡◌, sym, ap, ◌∙◌}
+use Prim.Native.Nat.{suc, ◌-◌, ◌*◌}
+use mathlib.Core.Path.{◌≡◌, sym, ◌∙◌}
 use mathlib.Core.Bool.{not}
 use native.Mathlib.Numerals.{add-one}
 use lib.ListN.{length}
 use Rattle.model.specs.Lists.{all, from}
 use Rattle.model.specs.Recording.{trace}
 use Rattle.model.specs.EventSet.{set_length, lent_bit}
-use Rattle.laws.proofs.Results.{passed_on, is_refused, is_passed, passed_bytes}
-use Rattle.laws.proofs.Questions.{check-count}
+use Rattle.laws.proofs.Results.{passed_on, is_refused, is_passed}
 use Rattle.closure.proofs.Answers.{close_unchecked, close-length, close_spare, close_closed}
 use Rattle.closure.proofs.close.Goals as goal
-use Rattle.closure.proofs.close.Goals.{After-event_count-n, After-spare_clear, Else-set-n}
+use Rattle.closure.proofs.close.Goals.{After-len-n, After-spare_clear, Else-set-n}
 
 -- Its events are counted.
-counted : (c : goal.After-event_count-n)
-    → c.event_count-n.result ≡ length (trace c.args.recording.now)
-counted c = c.event_count-n.ensures.1
-    ∙ sym (check-count _ (is_passed _ _ c.in_ok-check.ensures))
+counted : (c : goal.After-len-n) → c.len-n.result ≡ length (trace c.args.recording.now)
+counted c = rw c.in_ok-records.ensures.events at c.len-n.ensures.1
 
 -- The lent set has the length of a set.
 sized : (c : goal.Else-set-n)
     → length c.args.set.now ≡ set_length (length (trace c.args.recording.now))
-sized c =
-    let long : length c.args.set.now ≡ set_length c.event_count-n.result = c.if-set-n.false in
-    long ∙ ap set_length (counted (goal.at.Else-set-n c).After-event_count-n)
+sized c = rw (← counted (goal.at.Else-set-n c).After-len-n) c.if-set-n.false
 
 -- The bits after the last event are asked for.
 is-clear : (c : goal.After-spare_clear)
@@ -33,29 +28,25 @@ is-clear : (c : goal.After-spare_clear)
     let n = length (trace c.args.recording.now) in
     c.spare_clear.result ≡ all (λ e. not (lent_bit set e)) (from (suc n) (8 * length set - n))
 is-clear c =
-    rw (add-one c.event_count-n.result, counted (goal.at.After-spare_clear c).After-event_count-n)
+    rw (add-one c.len-n.result, counted (goal.at.After-spare_clear c).After-len-n)
     at c.spare_clear.ensures
 
-pub returns-in_err-check : goal.returns-in_err-check
-returns-in_err-check c =
+pub returns-in_err-records : goal.returns-in_err-records
+returns-in_err-records c =
     let a = c.args in
-    let q = c.in_err-check.ensures in
+    let q = c.in_err-records.ensures.outcome in
     let (x, y) = close_unchecked a.recording.now a.set.now (is_refused _ _ q) in
     record {
       answer = rw (passed_on c.from_residual.result _ c.from_residual.ensures.1) (sym (rw (← q) at x));
       output = sym y;
     }
 
-pub event_count-n-requires : goal.event_count-n-requires
-event_count-n-requires c = passed_bytes _ _ c.in_ok-check.ensures
-
 pub returns-then-set-n : goal.returns-then-set-n
 returns-then-set-n c =
     let a = c.args in
-    let size = counted (goal.at.returns-then-set-n c).After-event_count-n in
     let (x, y) =
-    close-length a.recording.now a.set.now (is_passed _ _ c.in_ok-check.ensures)
-    (λ q. c.if-set-n.true (q ∙ ap set_length (sym size))) in
+    close-length a.recording.now a.set.now (is_passed _ c.in_ok-records.ensures.outcome)
+    (rw (← counted (goal.at.returns-then-set-n c).After-len-n) c.if-set-n.true) in
     record { answer = rw c.into.ensures (sym x); output = sym y }
 
 pub returns-then-not-spare_clear : goal.returns-then-not-spare_clear
@@ -64,30 +55,26 @@ returns-then-not-spare_clear c =
     let no = sym (is-clear (goal.at.returns-then-not-spare_clear c).After-spare_clear)
     ∙ c.if-not-spare_clear.true in
     let (x, y) = close_spare a.recording.now a.set.now
-    (is_passed _ _ c.in_ok-check.ensures)
+    (is_passed _ c.in_ok-records.ensures.outcome)
     (sized (goal.at.returns-then-not-spare_clear c).Else-set-n) no in
     record { answer = rw c.into-then-not-spare_clear.ensures (sym x); output = sym y }
-
-pub read-requires : goal.read-requires
-read-requires c = is_passed _ _ c.in_ok-check.ensures
 
 pub close_set-requires : goal.close_set-requires
 close_set-requires c =
     let yes = sym (is-clear (goal.at.close_set-requires c).After-spare_clear)
     ∙ c.if-not-spare_clear.false in
-    rw c.read.ensures.events (sized (goal.at.close_set-requires c).Else-set-n, rw yes tt)
+    rw (c.new.ensures, c.in_ok-records.ensures.events)
+    (sized (goal.at.close_set-requires c).Else-set-n, rw yes tt)
 
 pub returns : goal.returns
 returns c =
     let a = c.args in
     let b = a.recording.now in
     let yes = sym (is-clear (goal.at.returns c).After-spare_clear) ∙ c.if-not-spare_clear.false in
-    let (x, y) = close_closed b a.set.now (is_passed _ _ c.in_ok-check.ensures)
+    let (x, y) = close_closed b a.set.now (is_passed _ c.in_ok-records.ensures.outcome)
     (sized (goal.at.returns c).Else-set-n) yes in
-    let added = rw c.read.ensures.events at c.close_set.ensures.answer in
-    let bytes = rw c.read.ensures.events at c.close_set.ensures.output in
+    let events = rw (← c.new.ensures) at c.in_ok-records.ensures.events in
     record {
-      answer =
-          ap (λ (m : ℕ). record { refusal = 0; event = 0; added = m }) added ∙ sym x;
-      output = bytes ∙ sym y;
+      answer = rw (c.close_set.ensures.answer, events) (sym x);
+      output = (rw events at c.close_set.ensures.output) ∙ sym y;
     }

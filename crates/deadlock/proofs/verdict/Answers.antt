@@ -6,19 +6,17 @@ use Rattle.laws.proofs.Results.{passed_on, is_refused, is_passed}
 use Rattle.deadlock.proofs.Answers.{verdict_unchecked, verdict_accepted}
 use Rattle.deadlock.proofs.verdict.Goals as goal
 
-pub returns-in_err-check : goal.returns-in_err-check
-returns-in_err-check c =
-    let q = c.in_err-check.ensures in
+pub returns-in_err-records : goal.returns-in_err-records
+returns-in_err-records c =
+    let q = c.in_err-records.ensures.outcome in
     rw (passed_on c.from_residual.result _ c.from_residual.ensures.1)
     (sym (rw (← q) at (verdict_unchecked c.args.recording.now c.args.pattern.now (is_refused _ _ q))))
 
-pub read-requires : goal.read-requires
-read-requires c = is_passed _ _ c.in_ok-check.ensures
-
 pub returns-in_err-decide : goal.returns-in_err-decide
 returns-in_err-decide c =
-    let (q, none) = rw c.read.ensures.events at c.in_err-decide.ensures in
-    let is = verdict_accepted c.args.recording.now c.args.pattern.now (is_passed _ _ c.in_ok-check.ensures) in
+    let (q, none) = rw (c.new.ensures, c.in_ok-records.ensures.events) at c.in_err-decide.ensures in
+    let is = verdict_accepted c.args.recording.now c.args.pattern.now
+    (is_passed _ c.in_ok-records.ensures.outcome) in
     rw (
       passed_on c.from_residual-in_err-decide.result (refusal c.in_err-decide.field-0.0 0)
           c.from_residual-in_err-decide.ensures.1,
@@ -27,12 +25,14 @@ returns-in_err-decide c =
 
 pub returns-in-Some : goal.returns-in-Some
 returns-in-Some c =
-    let (some, z) = rw (c.in-Some.is, c.read.ensures.events) at c.in_ok-decide.ensures in
+    let (some, z) = rw (c.in-Some.is, c.new.ensures, c.in_ok-records.ensures.events)
+    at c.in_ok-decide.ensures in
     rw some at (verdict_accepted c.args.recording.now c.args.pattern.now
-    (is_passed _ _ c.in_ok-check.ensures))
+    (is_passed _ c.in_ok-records.ensures.outcome))
 
 pub returns-in-None : goal.returns-in-None
 returns-in-None c =
-    let none = rw (c.in-None.is, c.read.ensures.events) at c.in_ok-decide.ensures in
+    let none = rw (c.in-None.is, c.new.ensures, c.in_ok-records.ensures.events)
+    at c.in_ok-decide.ensures in
     rw none at (verdict_accepted c.args.recording.now c.args.pattern.now
-    (is_passed _ _ c.in_ok-check.ensures))
+    (is_passed _ c.in_ok-records.ensures.outcome))

@@ -16,9 +16,9 @@ permitted : (c : In_ok-size) → (c.in_ok-size.size ≡ largest_size c.args.larg
     × (permits_size c.args.largest ≡ outcome 0 0) × (2 ≤ c.in_ok-size.size) × (c.in_ok-size.size ≤ 16)
 permitted c = size_permitted c.args.largest c.in_ok-size.ensures
 
-pub returns-in_err-check : goal.returns-in_err-check
-returns-in_err-check c =
-    let q = c.in_err-check.ensures in
+pub returns-in_err-records : goal.returns-in_err-records
+returns-in_err-records c =
+    let q = c.in_err-records.ensures.outcome in
     let (x, y) = list_unchecked c.args.recording.now c.args.largest c.args.out.now (is_refused _ _ q) in
     record {
       answer = rw (passed_on c.from_residual.result _ c.from_residual.ensures.1) (sym (rw (← q) at x));
@@ -29,13 +29,10 @@ pub returns-in_err-size : goal.returns-in_err-size
 returns-in_err-size c =
     let (q, p) = size_refused c.args.largest c.in_err-size.ensures in
     let (x, y) = list_size c.args.recording.now c.args.largest c.args.out.now
-    (is_passed _ _ c.in_ok-check.ensures) p in
+    (is_passed _ c.in_ok-records.ensures.outcome) p in
     let given = passed_on c.from_residual-in_err-size.result (refusal c.in_err-size.field-0.0 0)
     c.from_residual-in_err-size.ensures.1 in
     record { answer = rw (given, q) (sym x); output = sym y }
-
-pub read-trace-requires : goal.read-trace-requires
-read-trace-requires c = is_passed _ _ c.in_ok-check.ensures
 
 pub deliver-requires : goal.deliver-requires
 deliver-requires c =
@@ -47,8 +44,9 @@ returns-in-Ok c =
     let b = c.args.recording.now in
     let size = permitted (goal.at.returns-in-Ok c).In_ok-size in
     let (x, y) = list_written b c.args.largest c.args.out.now
-    (is_passed _ _ c.in_ok-check.ensures) size.1 _
-    (rw (← c.read-trace.ensures.events, ← c.new.ensures, ← size.0) c.in-Ok.ensures) in
+    (is_passed _ c.in_ok-records.ensures.outcome) size.1 _
+    (rw (← c.in_ok-records.ensures.events, ← c.new-trace.ensures, ← c.new.ensures, ← size.0)
+    c.in-Ok.ensures) in
     record { answer = x; output = y }
 
 pub returns-in-Err : goal.returns-in-Err
@@ -56,6 +54,7 @@ returns-in-Err c =
     let b = c.args.recording.now in
     let size = permitted (goal.at.returns-in-Err c).In_ok-size in
     let (x, y) = list_short b c.args.largest c.args.out.now
-    (is_passed _ _ c.in_ok-check.ensures) size.1 _
-    (rw (← c.read-trace.ensures.events, ← c.new.ensures, ← size.0) c.in-Err.ensures) in
+    (is_passed _ c.in_ok-records.ensures.outcome) size.1 _
+    (rw (← c.in_ok-records.ensures.events, ← c.new-trace.ensures, ← c.new.ensures, ← size.0)
+    c.in-Err.ensures) in
     record { answer = rw c.into.ensures (sym x); output = y }

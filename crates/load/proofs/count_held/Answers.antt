@@ -1,24 +1,22 @@
 -- `load::count_held` meets its contract: before each event the depth is the lock's, and the events passed
 -- are counted. Assumes nothing.
-use Prim.Native.Nat.{ℕ, ◌-◌}
-use mathlib.Core.Path.{◌≡◌, ap, ◌∙◌, refl}
+use Prim.Native.Nat.{◌-◌}
+use mathlib.Core.Path.{◌≡◌, ◌∙◌, refl}
 use native.Mathlib.Omega.{arith}
 use lib.ListN.{length}
-use Rattle.model.specs.Lists.{filter, from}
 use Rattle.model.specs.Recording.{decode_all}
-use Rattle.model.specs.Calls.Load.{is_held_after, held_events}
-use Rattle.laws.proofs.Trace.{decode_all-length}
+use Rattle.model.specs.Calls.Load.{held_events}
 use Rattle.laws.proofs.LockDepth.{lock_depth-start}
 use Rattle.load.proofs.Laws.{counted, uncounted}
 use Rattle.load.proofs.count_held.Goals as goal
 use Rattle.load.proofs.count_held.Goals.{then-depth-ne0, else-depth-ne0}
 
 pub loop-e-init : goal.loop-e-init
-loop-e-init c = (omega arith, lock_depth-start (decode_all c.args.records.now) c.args.lock, refl)
+loop-e-init c = (omega arith, lock_depth-start (decode_all c.args.records.now.bytes.now) c.args.lock, refl)
 
 pub loop-e-preserved : goal.loop-e-preserved
 loop-e-preserved c =
-    let σ = decode_all c.args.records.now in
+    let σ = decode_all c.args.records.now.bytes.now in
     let k = c.loop-e in
     let h = c.depth_after-depth.ensures in (
       elim c.if-depth-ne0.branch [ then-depth-ne0 w ↦ omega arith | else-depth-ne0 w ↦ omega arith ],
@@ -35,9 +33,6 @@ pub returns : goal.returns
 unfolding held_events
 returns c =
     let k = c.loop-e in
-    let last : k.e - 1 ≡ length (decode_all c.args.records.now) =
-    omega (arith, decode_all-length c.args.records.now) in (
-      omega arith,
-      k.invariant.2 ∙ ap (λ (n : ℕ). length (filter (is_held_after (decode_all c.args.records.now)
-          c.args.lock) (from 1 n))) last,
-    )
+    let last : k.e - 1 ≡ length (decode_all c.args.records.now.bytes.now) =
+    omega (arith, c.len-e-end.ensures) in
+    (omega arith, rw last at k.invariant.2)

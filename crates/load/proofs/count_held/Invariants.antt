@@ -9,5 +9,5 @@ use Rattle.load.proofs.count_held.Given as goal
 
 abbrev pub invariant-loop-e : goal.invariant-loop-e
 invariant-loop-e l =
-    (l.held < l.e) × LockDepth (decode_all l.records) l.e l.lock l.depth
-    × (l.held ≡ held_before (decode_all l.records) l.lock l.e)
+    (l.held < l.e) × LockDepth (decode_all l.records.bytes.now) l.e l.lock l.depth
+    × (l.held ≡ held_before (decode_all l.records.bytes.now) l.lock l.e)

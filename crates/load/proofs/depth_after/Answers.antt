@@ -13,15 +13,17 @@ use Rattle.load.proofs.depth_after.Goals as goal
 use Rattle.load.proofs.depth_after.Goals.{Start, In-Release}
 
 -- The event that comes.
-coming : (c : goal.Start) → let a = c.args in Coming (decode_all a.records.now) a.e a.lock a.depth
-coming c = record { sound = events_sound c.args.records.now c.requires.3; depth_is = c.requires.4 }
+coming : (c : goal.Start) → let a = c.args in Coming (decode_all a.records.now.bytes.now) a.e a.lock a.depth
+coming c =
+    let records = c.args.records.now in
+    record { sound = events_sound records.bytes.now records.accepted; depth_is = c.requires.2 }
 
 -- What a release does.
 back : (c : goal.In-Release) → let a = c.args in
-    (0 < a.depth) × LockDepth (decode_all a.records.now) (a.e + 1) a.lock (a.depth - 1)
+    (0 < a.depth) × LockDepth (decode_all a.records.now.bytes.now) (a.e + 1) a.lock (a.depth - 1)
 back c =
     leave-depth (coming (goal.at.In-Release c).Start) c.object.ensures.1
-    c.if-object-lock.false c.requires.5 c.in-Release.ensures
+    c.if-object-lock.false c.requires.3 c.in-Release.ensures
 
 pub returns-then-object-lock : goal.returns-then-object-lock
 returns-then-object-lock c =
@@ -42,7 +44,7 @@ returns-in-Read c =
 pub returns-in-Acquire : goal.returns-in-Acquire
 returns-in-Acquire c =
     enter-depth (coming (goal.at.returns-in-Acquire c).Start) c.object.ensures.1
-    c.if-object-lock.false c.requires.5 c.in-Acquire.ensures
+    c.if-object-lock.false c.requires.3 c.in-Acquire.ensures
 
 pub overflow_sub-result : goal.overflow_sub-result
 overflow_sub-result c = omega (arith, (back (goal.at.overflow_sub-result c).In-Release).0)
