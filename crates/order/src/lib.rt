@@ -45,7 +45,8 @@ impl Latest {
 
     // The predecessor of event e: the last event of its task, or its start.
     pub fn predecessor_of(&self, records: &Records, e: usize) -> u16
-        requires { (1 ≤ e) × (2 * e ≤ length records.now.bytes.now) × LatestBefore (decode_all records.now.bytes.now) e self.now }
+        requires { (1 ≤ e) × (2 * e ≤ length records.now.bytes.now)
+            × LatestBefore (decode_all records.now.bytes.now) e self.now }
         ensures { result ≡ predecessor (decode_all records.now.bytes.now) e }
     {
         self.last_of(recording::task(records.bytes, e) as usize)
@@ -54,7 +55,8 @@ impl Latest {
     // What the release record of event e waits for: a join for the last event of the joined task, or its
     // start, and a release of a lock for nothing.
     fn joined_of(&self, records: &Records, e: usize) -> u16
-        requires { (1 ≤ e) × (2 * e ≤ length records.now.bytes.now) × ((at (decode_all records.now.bytes.now) e).op ≡ 3)
+        requires { (1 ≤ e) × (2 * e ≤ length records.now.bytes.now)
+            × ((at (decode_all records.now.bytes.now) e).op ≡ 3)
             × LatestBefore (decode_all records.now.bytes.now) e self.now }
         ensures { result ≡ joined (decode_all records.now.bytes.now) e }
     {
