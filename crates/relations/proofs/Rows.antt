@@ -1,6 +1,6 @@
 -- The rows once one event more has its own, after the last event, and one event's relations off its row.
 -- Assumes nothing.
-use Prim.Native.Nat.{ℕ, suc, ◌+◌, ◌/◌, ◌≤◌, ◌<◌}
+use Prim.Native.Nat.{ℕ, suc, ◌+◌, ◌≤◌, ◌<◌}
 use mathlib.Core.Path.{◌≡◌, refl, sym, ◌∙◌}
 use mathlib.Core.Logic.{⊎_elim, ◌≢◌}
 use mathlib.Core.Bool.{false, cond, ◌&&◌}
@@ -13,7 +13,6 @@ use lib.ListN.{length, set, length-set}
 use lib.Seq.{get_or-set_same, get_or-set_other}
 use Rattle.model.specs.Lists.{last_before}
 use Rattle.model.specs.Trace.{Trace, at, object, is_acquire, is_release}
-use Rattle.model.specs.Recording.{decode_all}
 use Rattle.model.specs.Relations.{predecessor, held}
 use Rattle.model.specs.Answers.{Relations}
 use Rattle.laws.specs.Answered.{event_relations}
@@ -21,7 +20,6 @@ use Rattle.laws.specs.Order.{awaited}
 use Rattle.laws.specs.EventKinds.{marked}
 use Rattle.laws.specs.Walked.{marked_before}
 use Rattle.laws.proofs.Tests.{equal?}
-use Rattle.laws.proofs.Trace.{decode_all-length}
 use Rattle.laws.proofs.WellFormed.{WellFormed}
 use Rattle.laws.proofs.OpenAcquires.{opened_acquire}
 use Rattle.laws.proofs.Matches.{marked_keep, marked_release, marked_opened, marked_other, marked_end}
