@@ -9,15 +9,18 @@ use native.Mathlib.Omega.{arith}
 use lib.ListN.{get_or, set, length-set}
 use borrow.Author.Tests.{eq-eqb, ne_eqb}
 use Rattle.model.specs.Trace.{Trace, tasks, variables, at, task, object, is_write}
+use Rattle.model.specs.Recording.{decode_all}
 use Rattle.model.specs.Tasks.{is_start, target}
 use Rattle.model.specs.Relations.{last_of, joined}
 use Rattle.laws.specs.Order.{awaited}
 use Rattle.laws.specs.Walked.{LatestEvents}
+use Rattle.laws.proofs.Questions.{events_sound}
 use Rattle.laws.proofs.Relations.{joined_last}
 use Rattle.laws.proofs.LatestEvents.{latest-set, latest_keep, latest-writer, latest_last}
 use Rattle.laws.proofs.Operations.{is_read_op, is_write_op, is_start-none, starts_is, joins_is}
 use Rattle.laws.proofs.Awaited.{awaited_read}
-use Rattle.laws.proofs.WellFormed.{WellFormed, sync-object}
+use Rattle.laws.proofs.WellFormed.{sync-object}
+use Rattle.recording.specs.declared.Records.{Records}
 use Rattle.order.specs.declared.Latest.{Latest}
 use Rattle.order.specs.Kept.{LatestBefore}
 
@@ -113,12 +116,14 @@ module _ {σ : Trace} {e : ℕ} {latest : Latest} (z : LatestBefore σ e latest)
         write = unwritten d;
       }
 
-module _ (σ : Trace) (e : ℕ) {op o : ℕ} (q : op ≡ (at σ e).op) (p : (o < variables) × (o ≡ object σ e)) where
-  -- In a well-formed trace the object of an acquire or release record is a lock, or it stands for a task.
-  pub names_task : WellFormed σ → 2 ≤ op → op ≤ 3 → o < 80
-  names_task ok h k = rw p.1 (sync-object σ ok e op q h k)
+-- What a join waits for.
+pub join_awaits : (σ : Trace) (e : ℕ) {op o : ℕ} → op ≡ (at σ e).op → (o < variables) × (o ≡ object σ e)
+    → op ≡ 3 → 64 ≤ o → {r : ℕ} → r ≡ last_of σ e (o - 64) → r ≡ joined σ e
+unfolding target
+join_awaits σ e q p a h r =
+    r ∙ rw p.1 (sym (joined_last σ e (rw (joins_is σ e q (rw p.1 at h) a) tt)))
 
-  -- What a join waits for.
-  pub join_awaits : op ≡ 3 → 64 ≤ o → {r : ℕ} → r ≡ last_of σ e (o - 64) → r ≡ joined σ e
-  unfolding target
-  join_awaits a h r = r ∙ rw p.1 (sym (joined_last σ e (rw (joins_is σ e q (rw p.1 at h) a) tt)))
+-- The object of an accepted acquire or release record is a lock, or it stands for a task.
+pub names_task : (r : Records) (e : ℕ) {op o : ℕ} → op ≡ (at (decode_all r.bytes.now) e).op
+    → (o < variables) × (o ≡ object (decode_all r.bytes.now) e) → 2 ≤ op → op ≤ 3 → o < 80
+names_task r e {op} q p h k = rw p.1 (sync-object _ (events_sound r.bytes.now r.accepted) e op q h k)

@@ -1,6 +1,6 @@
 -- The rows once one event more has its own, after the last event, and one event's relations off its row.
 -- Assumes nothing.
-use Prim.Native.Nat.{ℕ, suc, ◌+◌, ◌/◌, ◌≤◌, ◌<◌}
+use Prim.Native.Nat.{ℕ, suc, ◌+◌, ◌≤◌, ◌<◌}
 use mathlib.Core.Path.{◌≡◌, refl, sym, ◌∙◌}
 use mathlib.Core.Logic.{⊎_elim, ◌≢◌}
 use mathlib.Core.Bool.{false, cond, ◌&&◌}
@@ -13,7 +13,6 @@ use lib.ListN.{length, set, length-set}
 use lib.Seq.{get_or-set_same, get_or-set_other}
 use Rattle.model.specs.Lists.{last_before}
 use Rattle.model.specs.Trace.{Trace, at, object, is_acquire, is_release}
-use Rattle.model.specs.Recording.{decode_all}
 use Rattle.model.specs.Relations.{predecessor, held}
 use Rattle.model.specs.Answers.{Relations}
 use Rattle.laws.specs.Answered.{event_relations}
@@ -21,7 +20,6 @@ use Rattle.laws.specs.Order.{awaited}
 use Rattle.laws.specs.EventKinds.{marked}
 use Rattle.laws.specs.Walked.{marked_before}
 use Rattle.laws.proofs.Tests.{equal?}
-use Rattle.laws.proofs.Trace.{decode_all-length}
 use Rattle.laws.proofs.WellFormed.{WellFormed}
 use Rattle.laws.proofs.OpenAcquires.{opened_acquire}
 use Rattle.laws.proofs.Matches.{marked_keep, marked_release, marked_opened, marked_other, marked_end}
@@ -98,23 +96,18 @@ module _ {σ : Trace} {e : ℕ} {rows : List Row} (z : Noted σ e rows) (l : e <
           (row_left f h k (λ b. marked_other σ ok e i t latest f b x))
 
 -- After the last event each row has the relations of its event.
-pub noted_end : (b : List ℕ) (e : ℕ) {rows : List Row} {walk : Walk} → Noted (decode_all b) e rows
-    → Walked (decode_all b) e walk → e ≤ length b / 2 + 1 → length b / 2 < e
-    → Tabled (decode_all b) (record { rows = rows; starts = walk.latest.starts })
-noted_end b e {walk = walk} z w h k = record {
+pub noted_end : {σ : Trace} {e : ℕ} {rows : List Row} {walk : Walk} → Noted σ e rows → Walked σ e walk
+    → e ≡ suc (length σ) → Tabled σ (record { rows = rows; starts = walk.latest.starts })
+noted_end {σ} {walk = walk} z w last = record {
   held_at = λ f i j. (z.at f i (omega (arith, last))).held_is;
   predecessor_at = λ f i j. (z.at f i (omega (arith, last))).predecessor_is;
   start_at = λ t i.
       let start = w.latest.start in
       let long = w.latest.starts_long in
-      rw last at (latest-start_of (decode_all b) e walk.latest.starts start t (omega (arith, long)));
+      rw last at (latest-start_of σ _ walk.latest.starts start t (omega (arith, long)));
   awaited_at = λ f i j. (z.at f i (omega (arith, last))).awaited_is;
-  matching_at = λ f i j. (rw last at (z.at f i (omega (arith, last))).matching_is)
-      ∙ marked_end (decode_all b) f;
+  matching_at = λ f i j. (rw last at (z.at f i (omega (arith, last))).matching_is) ∙ marked_end σ f;
 }
-  where
-    last : e ≡ suc (length (decode_all b))
-    last = omega (arith, decode_all-length b)
 
 -- The relations of an event, off what the tables have of it.
 pub related_is : (σ : Trace) (e : ℕ) → 1 ≤ e → {h p a m op w r c n : ℕ} → h ≡ held σ e → p ≡ predecessor σ e

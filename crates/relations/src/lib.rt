@@ -66,11 +66,11 @@ struct Walk {
 
 impl Walk {
     // The row of event e, of kind k, as far as the events to it show its match.
-    fn row_of(&self, records: &[u8], e: usize, k: Kind) -> Row
-        requires { (1 ≤ e) × (2 * e ≤ length records.now) × (e < table_length)
-            × ((check_events (decode_all records.now)).refusal ≡ 0) × IsKind (decode_all records.now) e k
-            × Walked (decode_all records.now) e self.now }
-        ensures { (result.matching ≤ e) × IsRow (decode_all records.now) (e + 1) e result }
+    fn row_of(&self, records: &Records, e: usize, k: Kind) -> Row
+        requires { (1 ≤ e) × (2 * e ≤ length records.now.bytes.now)
+            × IsKind (decode_all records.now.bytes.now) e k
+            × Walked (decode_all records.now.bytes.now) e self.now }
+        ensures { (result.matching ≤ e) × IsRow (decode_all records.now.bytes.now) (e + 1) e result }
     {
         Row {
             held: self.sections.held_locks(records, e),
@@ -81,12 +81,12 @@ impl Walk {
     }
 
     // Notes event e in its row; an outer release is then also the match of its acquire.
-    fn note(&mut self, records: &[u8], e: usize, rows: &mut [Row; 4096])
-        requires { (1 ≤ e) × (2 * e ≤ length records.now) × (e < table_length)
-            × ((check_events (decode_all records.now)).refusal ≡ 0)
-            × Walked (decode_all records.now) e self.old × Noted (decode_all records.now) e rows.old }
-        ensures { Walked (decode_all records.now) (e + 1) self.new
-            × Noted (decode_all records.now) (e + 1) rows.new }
+    fn note(&mut self, records: &Records, e: usize, rows: &mut [Row; 4096])
+        requires { (1 ≤ e) × (2 * e ≤ length records.now.bytes.now)
+            × Walked (decode_all records.now.bytes.now) e self.old
+            × Noted (decode_all records.now.bytes.now) e rows.old }
+        ensures { Walked (decode_all records.now.bytes.now) (e + 1) self.new
+            × Noted (decode_all records.now.bytes.now) (e + 1) rows.new }
     {
         let kind = self.sections.kind_of(records, e);
         let row = self.row_of(records, e, kind);
@@ -101,17 +101,15 @@ impl Walk {
 }
 
 impl Tables {
-    // Fills the tables of the records, whose events are accepted: one pass, each event noted in turn.
-    fn fill(&mut self, records: &[u8])
-        requires { (length records.now ≤ records_length)
-            × ((check_events (decode_all records.now)).refusal ≡ 0) }
-        ensures { Tabled (decode_all records.now) self.new }
+    // Fills the tables of accepted records: one pass, each event noted in turn.
+    fn fill(&mut self, records: &Records)
+        ensures { Tabled (decode_all records.now.bytes.now) self.new }
     {
         let mut walk = Walk {
             sections: OpenSections::new(),
             latest: Latest::new(),
         };
-        for e in 1..records.len() / 2 + 1 {
+        for e in 1..records.len() + 1 {
             walk.note(records, e, &mut self.rows);
         }
         self.starts = walk.latest.starts;
@@ -143,7 +141,7 @@ impl<'a> Trace<'a> {
             rows: [blank; 4096],
             starts: [0; 16],
         };
-        tables.fill(records.bytes);
+        tables.fill(records);
         Trace {
             records: records.bytes,
             tables,

@@ -12,16 +12,19 @@ use lib.ListN.{length, get_or, set, length-set}
 use borrow.Author.Tests.{eq-eqb, ne_eqb}
 use Rattle.model.specs.Lists.{last_before}
 use Rattle.model.specs.Trace.{Trace, tasks, locks, variables, at, task, object, is_acquire, is_release}
+use Rattle.model.specs.Recording.{decode_all}
 use Rattle.laws.specs.EventKinds.{uncounted_kind, is_uncounted, kind}
 use Rattle.laws.specs.Walked.{LatestEvents, KeptDepths, Locksets, marked_before}
 use Rattle.laws.proofs.Tests.{is_true}
-use Rattle.laws.proofs.Trace.{acquire-object, release-object}
+use Rattle.laws.proofs.Trace.{acquire-object, release-object, record-event}
+use Rattle.laws.proofs.Questions.{events_sound}
 use Rattle.laws.proofs.LatestEvents.{latest-set, latest_keep}
 use Rattle.laws.proofs.Locksets.{locksets_acquire, locksets_release, locksets_access}
 use Rattle.laws.proofs.EventKinds.{is_acquire-kind, is_release-kind, is_uncounted-kind}
 use Rattle.laws.proofs.WellFormed.{WellFormed, release-held}
 use Rattle.laws.proofs.OpenAcquires.{opened_acquire}
 use Rattle.laws.proofs.Matches.{marked_new, marked_release}
+use Rattle.recording.specs.declared.Records.{Records}
 use Rattle.sections.specs.declared.Kind as K
 use Rattle.sections.specs.declared.OpenSections.{OpenSections}
 use Rattle.sections.specs.Kinds.{kind_code, IsKind}
@@ -34,6 +37,18 @@ pub record OfKind (σ : Trace) (e : ℕ) (k : K.Kind) (sections : OpenSections) 
   pub event : (1 ≤ e) × (e ≤ length σ)
   pub kind_is : IsKind σ e k
   pub before : OpenBefore σ e sections
+
+-- An event of accepted records is one.
+pub of_accepted : (r : Records) {e : ℕ} {k : K.Kind} {sections : OpenSections}
+    → (1 ≤ e) × (2 * e ≤ length r.bytes.now) × IsKind (decode_all r.bytes.now) e k
+    × OpenBefore (decode_all r.bytes.now) e sections
+    → OfKind (decode_all r.bytes.now) e k sections
+of_accepted r (first, last, kind, kept) = record {
+  sound = events_sound r.bytes.now r.accepted;
+  event = record-event r.bytes.now _ (first, last);
+  kind_is = kind;
+  before = kept;
+}
 
 module _ {σ : Trace} {e : ℕ} {k : K.Kind} {sections : OpenSections} (u : OfKind σ e k sections) where
   code_is : kind_code k ≡ kind σ e

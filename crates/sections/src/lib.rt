@@ -6,14 +6,12 @@ ghost use Rattle.std.specs.Prelude.{◌+◌, ◌*◌, ◌<◌, ◌≤◌, ◌≡
 ghost use Rattle.model.specs.Trace.{Trace};
 ghost use Rattle.model.specs.Recording.{decode_all};
 ghost use Rattle.model.specs.Relations.{held};
-ghost use Rattle.model.specs.Calls.Check.{check_events};
-ghost use Rattle.laws.specs.Sizes.{table_length};
 ghost use Rattle.laws.specs.Walked.{marked_before};
 ghost use Rattle.sections.specs.declared.Kind.TheVariants.{Uncounted};
 ghost use Rattle.sections.specs.Kinds.{IsKind};
 ghost use Rattle.sections.specs.Kept.{OpenBefore};
 
-use recording::Op;
+use recording::{Op, Records};
 
 // What an event counts as: its operation, unless it is the record of an acquire or a release that is no outer
 // one.
@@ -48,23 +46,23 @@ impl OpenSections {
     }
 
     // Event e's held locks, those of its task, as a mask.
-    pub fn held_locks(&self, records: &[u8], e: usize) -> u64
-        requires { (1 ≤ e) × (2 * e ≤ length records.now) × OpenBefore (decode_all records.now) e self.now }
-        ensures { result ≡ held (decode_all records.now) e }
+    pub fn held_locks(&self, records: &Records, e: usize) -> u64
+        requires { (1 ≤ e) × (2 * e ≤ length records.now.bytes.now)
+            × OpenBefore (decode_all records.now.bytes.now) e self.now }
+        ensures { result ≡ held (decode_all records.now.bytes.now) e }
     {
-        self.locksets[recording::task(records, e) as usize]
+        self.locksets[recording::task(records.bytes, e) as usize]
     }
 
     // The kind of event e: a start, a join, an inner acquire, whose lock is among its held locks, and an
     // inner release, whose lock is at a depth above 1, do not count.
-    pub fn kind_of(&self, records: &[u8], e: usize) -> Kind
-        requires { (1 ≤ e) × (2 * e ≤ length records.now)
-            × ((check_events (decode_all records.now)).refusal ≡ 0)
-            × OpenBefore (decode_all records.now) e self.now }
-        ensures { IsKind (decode_all records.now) e result }
+    pub fn kind_of(&self, records: &Records, e: usize) -> Kind
+        requires { (1 ≤ e) × (2 * e ≤ length records.now.bytes.now)
+            × OpenBefore (decode_all records.now.bytes.now) e self.now }
+        ensures { IsKind (decode_all records.now.bytes.now) e result }
     {
-        let l = recording::object(records, e) as usize;
-        match recording::operation(records, e) {
+        let l = recording::object(records.bytes, e) as usize;
+        match recording::operation(records.bytes, e) {
             Op::Read => Kind::Read,
             Op::Write => Kind::Write,
             Op::Acquire => {
@@ -90,14 +88,14 @@ impl OpenSections {
 
     // The match of event e, of kind k, as far as the events to it show: of an outer release the latest outer
     // acquire of its lock; an inner event, a start or a join has its own number.
-    pub fn match_of(&self, records: &[u8], e: usize, k: Kind) -> u16
-        requires { (1 ≤ e) × (2 * e ≤ length records.now) × (e < table_length)
-            × ((check_events (decode_all records.now)).refusal ≡ 0) × IsKind (decode_all records.now) e k
-            × OpenBefore (decode_all records.now) e self.now }
-        ensures { (result ≤ e) × (result ≡ marked_before (decode_all records.now) (e + 1) e) }
+    pub fn match_of(&self, records: &Records, e: usize, k: Kind) -> u16
+        requires { (1 ≤ e) × (2 * e ≤ length records.now.bytes.now)
+            × IsKind (decode_all records.now.bytes.now) e k
+            × OpenBefore (decode_all records.now.bytes.now) e self.now }
+        ensures { (result ≤ e) × (result ≡ marked_before (decode_all records.now.bytes.now) (e + 1) e) }
     {
         match k {
-            Kind::Release => self.acquires[recording::object(records, e) as usize],
+            Kind::Release => self.acquires[recording::object(records.bytes, e) as usize],
             Kind::Uncounted => e as u16,
             _ => 0,
         }
@@ -105,14 +103,14 @@ impl OpenSections {
 
     // Notes event e, of kind k: an outer acquire opens a section, which an outer release closes, and an inner
     // one changes its lock's depth.
-    pub fn note(&mut self, records: &[u8], e: usize, k: Kind)
-        requires { (1 ≤ e) × (2 * e ≤ length records.now) × (e < table_length)
-            × ((check_events (decode_all records.now)).refusal ≡ 0) × IsKind (decode_all records.now) e k
-            × OpenBefore (decode_all records.now) e self.old }
-        ensures { OpenBefore (decode_all records.now) (e + 1) self.new }
+    pub fn note(&mut self, records: &Records, e: usize, k: Kind)
+        requires { (1 ≤ e) × (2 * e ≤ length records.now.bytes.now)
+            × IsKind (decode_all records.now.bytes.now) e k
+            × OpenBefore (decode_all records.now.bytes.now) e self.old }
+        ensures { OpenBefore (decode_all records.now.bytes.now) (e + 1) self.new }
     {
-        let t = recording::task(records, e) as usize;
-        let l = recording::object(records, e) as usize;
+        let t = recording::task(records.bytes, e) as usize;
+        let l = recording::object(records.bytes, e) as usize;
         match k {
             Kind::Acquire => {
                 self.locksets[t] |= 1 << l;
@@ -126,18 +124,17 @@ impl OpenSections {
 
     // Notes event e, which does not count: an inner acquire takes its lock one deeper, an inner release one
     // up, and a start or a join leaves all as it is.
-    fn note_depth(&mut self, records: &[u8], e: usize)
-        requires { (1 ≤ e) × (2 * e ≤ length records.now) × (e < table_length)
-            × ((check_events (decode_all records.now)).refusal ≡ 0)
-            × IsKind (decode_all records.now) e Uncounted
-            × OpenBefore (decode_all records.now) e self.old }
-        ensures { OpenBefore (decode_all records.now) (e + 1) self.new }
+    fn note_depth(&mut self, records: &Records, e: usize)
+        requires { (1 ≤ e) × (2 * e ≤ length records.now.bytes.now)
+            × IsKind (decode_all records.now.bytes.now) e Uncounted
+            × OpenBefore (decode_all records.now.bytes.now) e self.old }
+        ensures { OpenBefore (decode_all records.now.bytes.now) (e + 1) self.new }
     {
-        let l = recording::object(records, e) as usize;
+        let l = recording::object(records.bytes, e) as usize;
         if 64 <= l {
             return;
         }
-        match recording::operation(records, e) {
+        match recording::operation(records.bytes, e) {
             Op::Acquire => self.depths[l] += 1,
             Op::Release => self.depths[l] -= 1,
             _ => {}

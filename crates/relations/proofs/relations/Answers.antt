@@ -1,6 +1,6 @@
 -- `relations::relations` meets its contract: the recording's questions, then 9, then the relations of the event.
 -- Assumes nothing.
-use mathlib.Core.Path.{◌≡◌, sym, ◌∙◌}
+use mathlib.Core.Path.{◌≡◌, sym}
 use native.Mathlib.Omega.{arith}
 use mathlib.Core.Logic.{⊎_elim}
 use mathlib.Core.Bool.{true, false}
@@ -41,5 +41,5 @@ returns c =
     let events = c.in_ok-records.ensures.events in
     let event : is_event (trace b) c.args.event ≡ true = rw (← events) (is_event_true _ c.args.event
     (omega (arith, c.if-event-eq0.false)) (omega (arith, c.len-n.ensures, c.if-n-event.false))) in
-    rw (c.new.ensures, events) at c.related.ensures
-    ∙ sym (relations_answer b c.args.event (is_passed _ c.in_ok-records.ensures.outcome) event)
+    rw (relations_answer b c.args.event (is_passed _ c.in_ok-records.ensures.outcome) event)
+    (rw (c.new.ensures, events) at c.related.ensures)

@@ -11,10 +11,7 @@ use Rattle.order.proofs.Latest.awaited_by.Goals as goal
 
 pub returns-in-Read : goal.returns-in-Read
 returns-in-Read c =
-    read_awaits c.requires.3 c.in-Read.ensures c.object.ensures refl
-
-pub joined_of-requires : goal.joined_of-requires
-joined_of-requires c = (c.requires.0, c.requires.1, sym c.in-Release.ensures, c.requires.2, c.requires.3)
+    read_awaits c.requires.2 c.in-Read.ensures c.object.ensures refl
 
 pub returns-in-Release : goal.returns-in-Release
 returns-in-Release c =

@@ -2,8 +2,6 @@
 -- Assumes nothing.
 use mathlib.Core.Path.{refl, sym}
 use native.Mathlib.Omega.{arith}
-use Rattle.model.specs.Recording.{decode_all}
-use Rattle.laws.proofs.Questions.{events_sound}
 use Rattle.laws.proofs.Operations.{is_join_lock}
 use Rattle.laws.proofs.Relations.{joined-none}
 use Rattle.order.proofs.Laws.{names_task, join_awaits}
@@ -16,13 +14,12 @@ returns-then-o-lt64 c =
 
 pub last_of-requires : goal.last_of-requires
 last_of-requires c =
-    let ok = events_sound c.args.records.now c.requires.3 in
     let r = c.requires.2 in
-    let known = names_task (decode_all c.args.records.now) c.args.e refl c.object-o.ensures ok
-    (omega (arith, r)) (omega (arith, r)) in
+    let known = names_task c.args.records.now c.args.e refl c.object-o.ensures (omega (arith, r))
+    (omega (arith, r)) in
     omega (arith, c.if-o-lt64.false)
 
 pub returns : goal.returns
 returns c =
     join_awaits _ c.args.e refl c.object-o.ensures c.requires.2 (omega (arith, c.if-o-lt64.false))
-    (c.last_of.ensures _ c.args.e c.requires.4)
+    (c.last_of.ensures _ c.args.e c.requires.3)

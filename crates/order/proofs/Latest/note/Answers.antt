@@ -2,8 +2,6 @@
 use Prim.Native.Nat.{◌<◌}
 use mathlib.Core.Path.{refl}
 use native.Mathlib.Omega.{arith}
-use Rattle.model.specs.Recording.{decode_all}
-use Rattle.laws.proofs.Questions.{events_sound}
 use Rattle.laws.proofs.Operations.{is_start-none, is_start_lock}
 use Rattle.recording.specs.declared.Op.TheVariants.{Write, Acquire}
 use Rattle.recording.proofs.Laws.{code_apart}
@@ -14,8 +12,7 @@ use Rattle.order.proofs.Latest.note.Goals.{In-Acquire}
 -- The object of an acquire record is a lock, or it stands for a task.
 small : (c : goal.In-Acquire) → c.object-o.result < 80
 small c =
-    names_task (decode_all c.args.records.now) c.args.e c.in-Acquire.ensures c.object-o.ensures
-    (events_sound c.args.records.now c.requires.3) (omega arith) (omega arith)
+    names_task c.args.records.now c.args.e c.in-Acquire.ensures c.object-o.ensures (omega arith) (omega arith)
 
 pub bounds-self-o-then-o-ge64 : goal.bounds-self-o-then-o-ge64
 bounds-self-o-then-o-ge64 c =
@@ -23,17 +20,17 @@ bounds-self-o-then-o-ge64 c =
 
 pub returns-in-Write : goal.returns-in-Write
 returns-in-Write c =
-    write_noted c.requires.4 c.in-Write.ensures c.object-o.ensures
+    write_noted c.requires.2 c.in-Write.ensures c.object-o.ensures
     c.task.ensures refl
 
 pub returns-then-o-ge64 : goal.returns-then-o-ge64
 returns-then-o-ge64 c =
-    start_noted c.requires.4 c.in-Acquire.ensures c.object-o.ensures
+    start_noted c.requires.2 c.in-Acquire.ensures c.object-o.ensures
     c.task.ensures refl c.if-o-ge64.true (small (goal.at.returns-then-o-ge64 c).In-Acquire)
 
 pub returns-else-o-ge64 : goal.returns-else-o-ge64
 returns-else-o-ge64 c =
-    event_alone c.requires.4 c.in-Acquire.ensures c.object-o.ensures
+    event_alone c.requires.2 c.in-Acquire.ensures c.object-o.ensures
     c.task.ensures (omega arith)
     (is_start_lock _ c.args.e c.in-Acquire.ensures (omega (arith, c.object-o.ensures, c.if-o-ge64.false)))
 
@@ -41,5 +38,5 @@ pub returns-in_default : goal.returns-in_default
 returns-in_default c =
     let k = c.operation.result in
     let none = is_start-none _ c.args.e c.operation.ensures (code_apart k Acquire c.in_default.not-Acquire) in
-    event_alone c.requires.4 c.operation.ensures c.object-o.ensures
+    event_alone c.requires.2 c.operation.ensures c.object-o.ensures
     c.task.ensures (code_apart k Write c.in_default.not-Write) none

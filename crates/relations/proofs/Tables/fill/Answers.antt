@@ -7,7 +7,7 @@ use Rattle.relations.proofs.Tables.fill.Goals as goal
 
 pub loop-e-init : goal.loop-e-init
 loop-e-init c =
-    let σ = decode_all c.args.records.now in (
+    let σ = decode_all c.args.records.now.bytes.now in (
       record { section = c.new.ensures σ; latest = c.new-2.ensures σ },
       record { at = λ f h k. absurd (omega arith) },
     )
@@ -15,4 +15,4 @@ loop-e-init c =
 pub returns : goal.returns
 returns c =
     let (walked, noted) = c.loop-e.invariant in
-    noted_end _ _ noted walked (omega (arith, c.loop-e.auto.e-end)) (omega (arith, c.loop-e-test.false))
+    noted_end noted walked (omega (arith, c.len-e-end.ensures, c.loop-e.auto.e-end, c.loop-e-test.false))

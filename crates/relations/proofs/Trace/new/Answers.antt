@@ -3,9 +3,6 @@ use native.Mathlib.Omega.{arith}
 use Rattle.laws.proofs.Trace.{decode_all-length}
 use Rattle.relations.proofs.Trace.new.Goals as goal
 
-pub fill-requires : goal.fill-requires
-fill-requires c = (c.args.records.now.short, c.args.records.now.accepted)
-
 pub invariant_of-result : goal.invariant_of-result
 invariant_of-result c =
     let z = c.fill.ensures in

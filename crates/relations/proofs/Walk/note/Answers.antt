@@ -17,19 +17,20 @@ use Rattle.relations.proofs.Walk.note.Goals as goal
 
 pub returns-in-Release : goal.returns-in-Release
 returns-in-Release c =
-    let b = c.args.records.now in
+    let r = c.args.records.now in
+    let b = r.bytes.now in
     let is = is_release-kind (decode_all b) c.args.e c.kind_of-kind.ensures.code_is in
     let release : T (is_release (decode_all b) c.args.e) = rw (is, c.in-Release.is) tt in (
       record { section = c.note.ensures; latest = c.note-2.ensures },
-      release_noted c.requires.5 (search rules) c.row_of-row.ensures.1 (events_sound b c.requires.3)
+      release_noted c.requires.3 (search rules) c.row_of-row.ensures.1 (events_sound b r.accepted)
           (record-event b c.args.e (c.requires.0, c.requires.1)) release,
     )
 
 pub returns-in_default : goal.returns-in_default
 returns-in_default c =
     let k = c.kind_of-kind.result in
-    let is = is_release-kind (decode_all c.args.records.now) c.args.e c.kind_of-kind.ensures.code_is in
+    let is = is_release-kind _ c.args.e c.kind_of-kind.ensures.code_is in
     let none = is ∙ ne_eqb (kind_code k) 3 (kind_apart k Release c.in_default.not-Release) in (
       record { section = c.note.ensures; latest = c.note-2.ensures },
-      row_noted c.requires.5 (search rules) c.row_of-row.ensures.1 none,
+      row_noted c.requires.3 (search rules) c.row_of-row.ensures.1 none,
     )

@@ -15,15 +15,17 @@ use Rattle.sections.proofs.OpenSections.kind_of.Goals as goal
 use Rattle.sections.proofs.OpenSections.kind_of.Goals.{After-operation}
 
 -- The event with its operation and object.
-coming : (c : goal.After-operation) {op : ℕ} → op ≡ (at (decode_all c.args.records.now) c.args.e).op → op < 4
-    → Coming (decode_all c.args.records.now) c.args.e op c.object-l.result c.args.self.now.depths
-coming c is small = record {
-  sound = events_sound c.args.records.now c.requires.2;
-  event = record-event c.args.records.now c.args.e (c.requires.0, c.requires.1);
-  op_is = (small, is);
-  object_is = c.object-l.ensures.1;
-  depths_are = c.requires.3.depth;
-}
+coming : (c : goal.After-operation) {op : ℕ} → op ≡ (at (decode_all c.args.records.now.bytes.now) c.args.e).op
+    → op < 4
+    → Coming (decode_all c.args.records.now.bytes.now) c.args.e op c.object-l.result c.args.self.now.depths
+coming c is small =
+    let r = c.args.records.now in record {
+      sound = events_sound r.bytes.now r.accepted;
+      event = record-event r.bytes.now c.args.e (c.requires.0, c.requires.1);
+      op_is = (small, is);
+      object_is = c.object-l.ensures.1;
+      depths_are = c.requires.2.depth;
+    }
 
 pub returns-in-Read : goal.returns-in-Read
 returns-in-Read c =

@@ -1,50 +1,37 @@
 -- `sections::OpenSections::note` meets its contract: each return is the case of a kind. Assumes nothing.
 use mathlib.Core.Path.{refl}
-use Rattle.model.specs.Recording.{decode_all}
-use Rattle.laws.proofs.Trace.{record-event}
-use Rattle.laws.proofs.Questions.{events_sound}
 use Rattle.sections.specs.declared.Kind.TheVariants.{Acquire, Release, Uncounted}
 use Rattle.sections.proofs.KindOf.{kind_apart}
-use Rattle.sections.proofs.Locks.{OfKind, acquire_lock, release_lock, acquire_noted, release_noted}
+use Rattle.sections.proofs.Locks.{of_accepted, acquire_lock, release_lock, acquire_noted, release_noted}
 use Rattle.sections.proofs.Locks.{access_noted}
 use Rattle.sections.proofs.OpenSections.note.Goals as goal
-use Rattle.sections.proofs.OpenSections.note.Goals.{Start}
-
--- The event with its kind.
-known : (c : goal.Start) → OfKind (decode_all c.args.records.now) c.args.e c.args.k c.args.self.now
-known c = record {
-  sound = events_sound c.args.records.now c.requires.3;
-  event = record-event c.args.records.now c.args.e (c.requires.0, c.requires.1);
-  kind_is = c.requires.4;
-  before = c.requires.5;
-}
 
 pub overflow_shl-self : goal.overflow_shl-self
 overflow_shl-self c =
-    acquire_lock (known (goal.at.overflow_shl-self c).Start) c.object-l.ensures (rw c.in-Acquire.is refl)
+    acquire_lock (of_accepted c.args.records.now c.requires) c.object-l.ensures (rw c.in-Acquire.is refl)
 
 pub bounds-self-l : goal.bounds-self-l
 bounds-self-l c =
-    acquire_lock (known (goal.at.bounds-self-l c).Start) c.object-l.ensures (rw c.in-Acquire.is refl)
+    acquire_lock (of_accepted c.args.records.now c.requires) c.object-l.ensures (rw c.in-Acquire.is refl)
 
 pub returns-in-Acquire : goal.returns-in-Acquire
 returns-in-Acquire c =
-    acquire_noted (known (goal.at.returns-in-Acquire c).Start) c.object-l.ensures c.task-t.ensures
+    acquire_noted (of_accepted c.args.records.now c.requires) c.object-l.ensures c.task-t.ensures
     (rw c.in-Acquire.is refl)
 
 pub overflow_shl-self-in-Release : goal.overflow_shl-self-in-Release
 overflow_shl-self-in-Release c =
-    release_lock (known (goal.at.overflow_shl-self-in-Release c).Start) c.object-l.ensures
+    release_lock (of_accepted c.args.records.now c.requires) c.object-l.ensures
     (rw c.in-Release.is refl)
 
 pub returns-in-Release : goal.returns-in-Release
 returns-in-Release c =
-    release_noted (known (goal.at.returns-in-Release c).Start) c.object-l.ensures c.task-t.ensures
+    release_noted (of_accepted c.args.records.now c.requires) c.object-l.ensures c.task-t.ensures
     (rw c.in-Release.is refl)
 
 pub returns-in_default : goal.returns-in_default
 returns-in_default c =
     let d = c.in_default in
-    access_noted (known (goal.at.returns-in_default c).Start) c.object-l.ensures
+    access_noted (of_accepted c.args.records.now c.requires) c.object-l.ensures
     (kind_apart c.args.k Acquire d.not-Acquire) (kind_apart c.args.k Release d.not-Release)
     (kind_apart c.args.k Uncounted d.not-Uncounted)
