@@ -1,6 +1,5 @@
 -- `recording::Records::read` meets its contract: what is not refused has its records after the header.
 -- Assumes nothing.
-use Prim.Native.Nat.{◌-◌}
 use borrow.Author.Rules.{rules}
 use Rattle.laws.proofs.Results.{passed_on, is_passed, passed_bytes}
 use Rattle.laws.proofs.Questions.{part-trace, part_small, part_accepted}
