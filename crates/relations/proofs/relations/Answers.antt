@@ -1,5 +1,5 @@
--- `relations::relations` meets its contract: the recording's questions, then 9, then the relations of the event.
--- Assumes nothing.
+-- `relations::relations` meets its contract: the recording's questions, then 9, then the relations of the
+-- event. Assumes nothing.
 use mathlib.Core.Path.{◌≡◌, sym}
 use native.Mathlib.Omega.{arith}
 use mathlib.Core.Logic.{⊎_elim}
@@ -33,7 +33,8 @@ returns-then-event-eq0 c =
     (unknown (goal.at.returns-then-event-eq0 c).Joined-then-event-eq0)))
 
 pub related-requires : goal.related-requires
-related-requires c = rw c.new.ensures (omega (arith, c.if-event-eq0.false, c.if-n-event.false, c.len-n.ensures))
+related-requires c =
+    rw c.new.ensures (omega (arith, c.if-event-eq0.false, c.if-n-event.false, c.len-n.ensures))
 
 pub returns : goal.returns
 returns c =

@@ -5,4 +5,6 @@ use Rattle.relations.specs.Tables.{Noted, Walked}
 use Rattle.relations.proofs.Tables.fill.Given as goal
 
 abbrev pub invariant-loop-e : goal.invariant-loop-e
-invariant-loop-e l = Walked (decode_all l.records.bytes.now) l.e l.walk × Noted (decode_all l.records.bytes.now) l.e l.self.rows
+invariant-loop-e l =
+    let σ = decode_all l.records.bytes.now in
+    Walked σ l.e l.walk × Noted σ l.e l.self.rows
