@@ -115,7 +115,7 @@ impl Grown {
         if !deadlock::avoids(trace, events.len(), |i| events[i], &self.frontier) {
             return Trial::TaskFailure;
         }
-        if self.frontier.contains(trace, e) {
+        if self.frontier.contains(trace.records, e) {
             return Trial::Failure;
         }
         Trial::Success
@@ -124,13 +124,13 @@ impl Grown {
 
 // The chain whose later events are sought after event e was attempted: where the task of e fails, with this
 // task among its own.
-pub fn exclude(trace: &Trace, chain: &Chain, met: Trial, e: usize) -> Chain
-    requires { (1 ≤ e) × (2 * e ≤ length trace.now.records.now) }
-    ensures { result ≡ excluded_after (decode_all trace.now.records.now) chain.now met e }
+pub fn exclude(records: &[u8], chain: &Chain, met: Trial, e: usize) -> Chain
+    requires { (1 ≤ e) × (2 * e ≤ length records.now) }
+    ensures { result ≡ excluded_after (decode_all records.now) chain.now met e }
 {
     match met {
         Trial::TaskFailure => Chain {
-            tasks: deadlock::with_task(trace, chain.tasks, e),
+            tasks: deadlock::with_task(records, chain.tasks, e),
             ..*chain
         },
         _ => *chain,

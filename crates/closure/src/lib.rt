@@ -68,7 +68,7 @@ fn set_behind(trace: &Trace, frontier: &Frontier) -> [u64; 64]
 {
     let mut words = [0; 64];
     for e in 1..trace.len() + 1 {
-        if frontier.contains(trace, e) {
+        if frontier.contains(trace.records, e) {
             words::put(&mut words, e);
         }
     }

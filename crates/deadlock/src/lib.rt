@@ -46,11 +46,11 @@ pub fn lock_in_mask(trace: &Trace, mask: u64, e: usize) -> bool
 }
 
 // The mask of tasks with that of event e.
-pub fn with_task(trace: &Trace, tasks: u64, e: usize) -> u64
-    requires { (1 ≤ e) × (2 * e ≤ length trace.now.records.now) }
-    ensures { result ≡ bit_or tasks (2 ^ (task (decode_all trace.now.records.now) e)) }
+pub fn with_task(records: &[u8], tasks: u64, e: usize) -> u64
+    requires { (1 ≤ e) × (2 * e ≤ length records.now) }
+    ensures { result ≡ bit_or tasks (2 ^ (task (decode_all records.now) e)) }
 {
-    tasks | (1 << (trace.task(e) as u64))
+    tasks | (1 << (recording::task(records, e) as u64))
 }
 
 // Event e, at which its task holds the locks of the mask, is an outer acquire: it is one of a lock, which is
@@ -92,7 +92,7 @@ impl Chain {
         Chain {
             first: a,
             last: a,
-            tasks: with_task(trace, 0, a),
+            tasks: with_task(trace.records, 0, a),
             guards: trace.held(a),
         }
     }
@@ -106,7 +106,7 @@ impl Chain {
         Chain {
             first: self.first,
             last: e,
-            tasks: with_task(trace, self.tasks, e),
+            tasks: with_task(trace.records, self.tasks, e),
             guards: self.guards | trace.held(e),
         }
     }
@@ -228,7 +228,7 @@ pub fn avoids<F: Fn(usize) -> u16>(
         (get_or frontier.now.front (task (decode_all trace.now.records.now) e) 0))) ns }
 {
     for i in 0..count {
-        if frontier.contains(trace, event(i) as usize) {
+        if frontier.contains(trace.records, event(i) as usize) {
             return false;
         }
     }
@@ -274,7 +274,7 @@ fn count_behind(trace: &Trace, frontier: &Frontier) -> u64
 {
     let mut count = 0;
     for e in 1..trace.len() + 1 {
-        if frontier.contains(trace, e) {
+        if frontier.contains(trace.records, e) {
             count += 1;
         }
     }
@@ -291,7 +291,7 @@ fn write_one(trace: &Trace, frontier: &Frontier, out: &mut [u8], at: usize, e: u
         × (out.new ≡ sets out.old at
         (encode (behind_at (decode_all trace.now.records.now) frontier.now.front e))) }
 {
-    if !frontier.contains(trace, e) {
+    if !frontier.contains(trace.records, e) {
         return at;
     }
     recording::put_number(out, at, e as u16);

@@ -146,7 +146,8 @@ impl Frontier {
     // until none has more to reach. A closed set is extended the same way: with further events wanted.
     pub fn advance(&mut self, trace: &Trace, want: &mut [u16; 16])
         requires { Settled (decode_all trace.now.records.now) self.old.front want.old self.old.latest }
-        ensures { Advanced (decode_all trace.now.records.now) want.old self.new.front self.new.latest }
+        ensures { Advanced (decode_all trace.now.records.now) want.old self.new.front self.new.latest
+            × (want.new ≡ self.new.front) }
     {
         while let Some(t) = unreached(&self.front, want) {
             self.turn(trace, want, t);
@@ -167,10 +168,10 @@ impl Frontier {
     }
 
     // Event e is in the set.
-    pub fn contains(&self, trace: &Trace, e: usize) -> bool
-        requires { (1 ≤ e) × (2 * e ≤ length trace.now.records.now) }
-        ensures { result ≡ leb e (get_or self.now.front (task (decode_all trace.now.records.now) e) 0) }
+    pub fn contains(&self, records: &[u8], e: usize) -> bool
+        requires { (1 ≤ e) × (2 * e ≤ length records.now) }
+        ensures { result ≡ leb e (get_or self.now.front (task (decode_all records.now) e) 0) }
     {
-        e <= self.front[trace.task(e) as usize] as usize
+        e <= self.front[recording::task(records, e) as usize] as usize
     }
 }

@@ -83,7 +83,7 @@ fn extend(
     let mut at = chain.first;
     while let Some(e) = search.links.following(&chain, at) {
         let met = grown.attempt(trace, &search.back, path, left - 1, frontier, e);
-        chain = chain::exclude(trace, &chain, met, e);
+        chain = chain::exclude(trace.records, &chain, met, e);
         at = e;
         match met {
             Trial::Success => {

@@ -1,6 +1,6 @@
 -- The acquires that can stand in a pattern, as links from each event to the next of them and by the locks
 -- that are held in blocks of 64 events.
-use Rattle.std.specs.Prelude.{ℕ, ◌-◌, ◌/◌, ◌≤◌, ◌≡◌, ◌≢◌, Bool, false, not, ◌&&◌, cond, List, T, eqb}
+use Rattle.std.specs.Prelude.{ℕ, ◌-◌, ◌/◌, ◌≤◌, ◌≡◌, ◌≢◌, Bool, true, false, not, ◌&&◌, cond, List, T, eqb}
 use Rattle.std.specs.Prelude.{length, get_or}
 use Rattle.std.specs.Prelude.{Option, Some, None}
 use Rattle.model.specs.Lists.{has_bit}
@@ -58,4 +58,5 @@ pub record Unreturned (σ : Trace) (a count : ℕ) : Type 0 where
 -- do not return.
 abbrev pub WaysBack : Trace → ℕ → ℕ → Option (List ℕ) → Type 0
 WaysBack σ a count None = Unreturned σ a count
-WaysBack σ a count (Some back) = Returning σ a count back
+WaysBack σ a count (Some back) =
+    Returning σ a count back × (has_bit (get_or back (count - 1) 0) (object σ a) ≡ true)

@@ -21,4 +21,4 @@ returns c =
     let records = c.args.trace.now.records.now in
     let want = c.wanted.result in
     wanted-closes (decode_all records) c.args.words.now want (search rules) c.wanted.ensures
-    (events_sound records c.args.trace.now.accepted) _ _ c.advance.ensures
+    (events_sound records c.args.trace.now.accepted) _ _ c.advance.ensures.0

@@ -24,4 +24,8 @@ returns-then-not-lock_in_mask c = record {
 }
 
 pub returns : goal.returns
-returns c = filled (goal.at.returns c).After-fill_back-back
+returns c = (
+  filled (goal.at.returns c).After-fill_back-back,
+  sym c.lock_in_mask.ensures ∙
+      c.if-not-lock_in_mask.false,
+)

@@ -18,5 +18,5 @@ pub returns : goal.returns
 returns c =
     let k = c.loop-t in
     let b = c.args.trace.now.records.now in
-    (round_end (decode_all b) c.args.want.now k.self.front k.want k.self.latest k.invariant
-    (events_sound b c.args.trace.now.accepted) c.in_default.ensures).0
+    round_end (decode_all b) c.args.want.now k.self.front k.want k.self.latest k.invariant
+    (events_sound b c.args.trace.now.accepted) c.in_default.ensures

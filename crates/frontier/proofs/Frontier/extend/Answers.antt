@@ -45,4 +45,4 @@ advance-requires c =
     (known (goal.at.advance-requires c).Start))
 
 pub returns : goal.returns
-returns c = rw (more (goal.at.returns c).After-want_event) at c.advance.ensures
+returns c = rw (more (goal.at.returns c).After-want_event) at c.advance.ensures.0
