@@ -27,6 +27,7 @@ use Rattle.chain.specs.declared.Grown.{Grown}
 use Rattle.chain.specs.declared.Trial.{Trial}
 use Rattle.chain.specs.declared.Trial.TheVariants.{Success, Failure, TaskFailure, Skipped}
 use Rattle.chain.specs.Attempted.{Attempted, excluded_after}
+use Rattle.chain.proofs.Laws.{along_itself}
 use Rattle.entries.specs.declared.Found.{Found}
 use Rattle.entries.specs.declared.Full.{Full}
 use Rattle.entries.specs.Taken.{Adds, Roomy}
@@ -107,7 +108,7 @@ module _ {σ : Trace} {k : ℕ} {c : Chain} {room : ℕ} {x : Kept} {at : ℕ} {
 
       -- and otherwise nothing.
       pub scanning_drops : met ≢ Success → Rooted σ c → Adds room (branch σ k c e) out out f (Ok f)
-      scanning_drops n rooted = rw (t.dropped n rooted) (adds_none room out f)
+      scanning_drops n rooted = rw (t.dropped n c (along_itself rooted)) (adds_none room out f)
 
     module _ {out' : List ℕ} {r : Result Found Full} (a : Adds room (branch σ k c e) out out' f r) where
       -- What was taken with it.
@@ -172,7 +173,7 @@ module _ {σ : Trace} {k : ℕ} {c : Chain} {room : ℕ} {x : Kept} {at : ℕ} {
         rest Skipped t q g h i m = more g h i (rw q at m)
         rest TaskFailure t q g h i m =
             ⊎_elim
-            (λ (w : task σ g ≡ task σ e). t.later refl rooted g h i w)
+            (λ (w : task σ g ≡ task σ e). t.later refl c (along_itself rooted) g h i w)
             (λ (w : task σ g ≢ task σ e). more g h i (rw (
               q,
               has_bit-set x.tasks (task σ e) (task σ g),
