@@ -14,7 +14,7 @@ use Rattle.model.specs.Relations.{predecessor, held}
 use Rattle.model.specs.Pattern.{is_deadlock}
 use Rattle.laws.specs.Chain.{Chain, signature, add}
 use Rattle.laws.specs.Frontier.{wanted, Advanced, Before}
-use Rattle.laws.specs.Returning.{Returning}
+use Rattle.laws.specs.Returning.{Returning, Rooted}
 use Rattle.laws.proofs.Tests.{is_false, and_i, not-false, equal?}
 use Rattle.laws.proofs.Lists.{all_iff, all_append, all_fails}
 use Rattle.laws.proofs.Extensions.{branch-not, branch_nowhere}
@@ -27,9 +27,13 @@ use Rattle.frontier.specs.declared.Frontier.{Frontier}
 use Rattle.chain.specs.declared.Grown.{Grown}
 use Rattle.chain.specs.declared.Trial.{Trial}
 use Rattle.chain.specs.declared.Trial.TheVariants.{Success, Failure, TaskFailure, Skipped}
-use Rattle.chain.specs.Attempted.{Reusable, Attempted}
+use Rattle.chain.specs.Attempted.{Reusable, Along, Attempted}
 
 -- ---- what is decided of one event more
+
+-- A chain whose masks are rooted is along itself.
+pub along_itself : {σ : Trace} {c : Chain} → Rooted σ c → Along σ c c
+along_itself r = record { events = refl; first = refl; rooted = r }
 
 -- A path of events, and one event more.
 pub path_more : (σ : Trace) (p : List ℕ) (e : ℕ) → T (all (is_event σ) p) → 1 ≤ e → e ≤ length σ
@@ -47,8 +51,8 @@ module _ (σ : Trace) (k : ℕ) (c : Chain) (e : ℕ) (old : Grown) where
     grows = λ d. absurd (d refl);
     own = λ d. absurd (d refl);
     unchanged = λ q. refl;
-    dropped = λ d r. branch_nowhere σ k c e unclosed
-        (z.nowhere k (omega arith) (add (signature σ) c e) refl (add_rooted σ c e r) h);
+    dropped = λ d c' l. branch_nowhere σ k c' e (rw l.first unclosed)
+        (z.nowhere k (omega arith) (add (signature σ) c' e) l.first (add_rooted σ c' e l.rooted) h);
     later = λ q. cc;
   }
     where
@@ -79,8 +83,8 @@ module _ (σ : Trace) (k : ℕ) (c : Chain) (e : ℕ) (old : Grown) where
       grows = λ d. z;
       own = λ d. own;
       unchanged = λ q. cc;
-      dropped = λ d r. branch-not σ k c e (rw (verdict, h));
-      later = λ q r f l m s. branch-not σ k c f (after f l m s);
+      dropped = λ d c' l. branch-not σ k c' e (rw (l.events, verdict, h));
+      later = λ q c' l f b m s. branch-not σ k c' f (rw l.events (after f b m s));
     }
       where
         after : (f : ℕ) → e < f → f ≤ length σ → task σ f ≡ task σ e
@@ -105,7 +109,7 @@ module _ (σ : Trace) (k : ℕ) (c : Chain) (e : ℕ) (old : Grown) where
         grows = λ d. z;
         own = λ d. own;
         unchanged = λ q. cc;
-        dropped = λ d r. branch-not σ k c e (rw (verdict, h, y));
+        dropped = λ d c' l. branch-not σ k c' e (rw (l.events, verdict, h, y));
         later = λ q. cc;
       }
 

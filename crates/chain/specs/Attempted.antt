@@ -24,17 +24,23 @@ pub record Reusable (σ : Trace) (p : List ℕ) (e : ℕ) (grown : Grown) : Type
   pub again : grown.of ≡ Some (task σ e) → (d : ℕ) × (1 ≤ d) × (d < e) × (task σ d ≡ task σ e)
       × Before σ (p ++ d ∷ []) grown.frontier.front grown.frontier.latest
 
--- Event e after a chain: with success they make a deadlock so far; otherwise e adds nothing, and where
--- its task fails no later event of the task does. The frontier is that of their predecessors, and its
--- task that of e, unless e is skipped.
+-- A chain c' has the events and the first event of the chain c, and its masks are rooted in that one.
+pub record Along (σ : Trace) (c c' : Chain) : Type 0 where
+  pub events : c'.events ≡ c.events
+  pub first : c'.first ≡ c.first
+  pub rooted : Rooted σ c'
+
+-- Event e after a chain: with success they make a deadlock so far; otherwise e adds nothing along the chain,
+-- and where its task fails no later event of the task does. The frontier is that of their predecessors, and
+-- its task that of e, unless e is skipped.
 pub record Attempted (σ : Trace) (k : ℕ) (c : Chain) (e : ℕ) (r : Trial) (old new : Grown) : Type 0 where
   pub deadlock : r ≡ Success → is_deadlock σ (c.events ++ e ∷ []) ≡ true
   pub grows : r ≢ Skipped → Before σ (c.events ++ e ∷ []) new.frontier.front new.frontier.latest
   pub own : r ≢ Skipped → new.of ≡ Some (task σ e)
   pub unchanged : r ≡ Skipped → new ≡ old
-  pub dropped : r ≢ Success → Rooted σ c → branch σ k c e ≡ []
-  pub later : r ≡ TaskFailure → Rooted σ c → (f : ℕ) → e < f → f ≤ length σ → task σ f ≡ task σ e
-      → branch σ k c f ≡ []
+  pub dropped : r ≢ Success → (c' : Chain) → Along σ c c' → branch σ k c' e ≡ []
+  pub later : r ≡ TaskFailure → (c' : Chain) → Along σ c c' → (f : ℕ) → e < f → f ≤ length σ
+      → task σ f ≡ task σ e → branch σ k c' f ≡ []
 
 -- The chain whose later events are sought after an attempt at event e: with the task of e, where that fails.
 abbrev pub excluded_after : Trace → Kept → Trial → ℕ → Kept

@@ -2,7 +2,7 @@
 -- Assumes nothing.
 use Rattle.std.specs.Prelude.{Result, Ok, Err}
 use Prim.Native.Nat.{ℕ, ◌+◌, ◌*◌, ◌-◌, ◌≤◌, ◌<◌}
-use mathlib.Core.Path.{◌≡◌, refl, sym, ap, ◌∙◌}
+use mathlib.Core.Path.{◌≡◌, refl, sym, ap, subst, ◌∙◌}
 use mathlib.Core.List.{List, [], ◌∷◌, ◌++◌, append-nil, append_assoc}
 use native.Mathlib.Omega.{arith}
 use native.Mathlib.Numerals.{add-one}
@@ -12,7 +12,7 @@ use Rattle.model.specs.Bytes.{encode, two_bytes}
 use Rattle.model.specs.Calls.List.{entries}
 use Rattle.laws.proofs.Bytes.{encode-length, encode-append}
 use Rattle.laws.proofs.Parts.{sets-append}
-use Rattle.entries.specs.declared.Found.{Found}
+use Rattle.entries.specs.declared.found.Found.{Found}
 use Rattle.entries.specs.declared.Full.{Full}
 use Rattle.entries.specs.Taken.{Taken, Adds}
 
@@ -53,17 +53,34 @@ entry_more out path i h =
 
 -- ---- what is found
 
+-- Nothing is found at first.
+pub taken_none : {room : ℕ} {out : List ℕ} {f : Found}
+    → (f.patterns ≡ 0) × (f.bytes ≡ 0) × (f.room ≡ room) → Taken room [] out out (Ok f)
+taken_none q = record {
+  long = refl;
+  within = q.2;
+  counted = (q.0, q.1);
+  written = λ h. refl;
+  over = tt;
+}
+
 -- Without patterns nothing is added.
-pub adds_none : (room : ℕ) (out : List ℕ) (f : Found) → Adds room [] out out f (Ok f)
-adds_none room out f = record { adds = λ ps out₀ t. rw (append-nil ps) t }
+pub adds_none : (out : List ℕ) (f : Found) → Adds [] out out f (Ok f)
+adds_none out f = record { adds = λ ps out₀ t. rw (append-nil ps) t }
 
 -- Patterns are added one after the other.
-pub adds_trans : (room : ℕ) (xs ys : List (List ℕ)) (a b c : List ℕ) (f g : Found) (r : Result Found Full)
-    → Adds room xs a b f (Ok g) → Adds room ys b c g r → Adds room (xs ++ ys) a c f r
-adds_trans room xs ys a b c f g r x y =
-    record {
-      adds = λ ps out₀ t. rw (← append_assoc ps xs ys) (y.adds (ps ++ xs) out₀ (x.adds ps out₀ t));
-    }
+pub adds_trans : (xs ys : List (List ℕ)) (a b c : List ℕ) (f g : Found) (r : Result Found Full)
+    → Adds xs a b f (Ok g) → Adds ys b c g r → Adds (xs ++ ys) a c f r
+adds_trans xs ys a b c f g r x y = record { adds = both }
+  where
+    both : (ps : List (List ℕ)) (out₀ : List ℕ) → Taken f.room ps out₀ a (Ok f)
+        → Taken f.room (ps ++ (xs ++ ys)) out₀ c r
+    both ps out₀ t =
+        let first = x.adds ps out₀ t in
+        let same : g.room ≡ f.room = first.within in
+        rw (← append_assoc ps xs ys)
+        (subst (λ (room : ℕ). Taken room (ps ++ xs) out₀ b (Ok g) → Taken room ((ps ++ xs) ++ ys) out₀ c r)
+        same (y.adds (ps ++ xs) out₀) first)
 
 -- Once full, what is found takes more than the room, and it still does with more patterns.
 pub taken_over : (room : ℕ) (ps qs : List (List ℕ)) (out₀ out : List ℕ) (e : Full)
@@ -71,31 +88,33 @@ pub taken_over : (room : ℕ) (ps qs : List (List ℕ)) (out₀ out : List ℕ) 
 taken_over room ps qs out₀ out e t =
     record {
       long = t.long;
+      within = tt;
       counted = tt;
       written = tt;
       over = omega (arith, t.over, entries-length ps qs);
     }
 
 -- Once the room is exceeded, any further patterns may be added.
-pub adds_over : (room : ℕ) (xs ys : List (List ℕ)) (a b : List ℕ) (f : Found) (e : Full)
-    → Adds room xs a b f (Err e) → Adds room (xs ++ ys) a b f (Err e)
-adds_over room xs ys a b f e x =
+pub adds_over : (xs ys : List (List ℕ)) (a b : List ℕ) (f : Found) (e : Full) → Adds xs a b f (Err e)
+    → Adds (xs ++ ys) a b f (Err e)
+adds_over xs ys a b f e x =
     record {
       adds =
           λ ps out₀ t. rw (← append_assoc ps xs ys)
-          (taken_over room (ps ++ xs) ys out₀ b e (x.adds ps out₀ t));
+          (taken_over f.room (ps ++ xs) ys out₀ b e (x.adds ps out₀ t));
     }
 
 -- ---- one pattern more
 
-module _ (room : ℕ) (out p : List ℕ) (f : Found) where
+module _ (out p : List ℕ) (f : Found) where
   -- A pattern whose entry does not fit the room,
-  pub adds_full : room - f.bytes < 2 * length p + 2 → (e : Full) → Adds room (p ∷ []) out out f (Err e)
+  pub adds_full : f.room - f.bytes < 2 * length p + 2 → (e : Full) → Adds (p ∷ []) out out f (Err e)
   adds_full r e =
       record {
         adds =
             λ ps out₀ t. record {
               long = t.long;
+              within = tt;
               counted = tt;
               written = tt;
               over = omega (arith, t.counted, entry_length p, entries-length ps (p ∷ []));
@@ -104,23 +123,24 @@ module _ (room : ℕ) (out p : List ℕ) (f : Found) where
 
   -- and one whose entry does: it is counted, and written behind those before where all of them fit the
   -- output.
-  pub adds_one : (out' : List ℕ) → length out' ≡ length out
+  pub adds_one : (g : Found) → g.patterns ≡ f.patterns + 1 → g.bytes ≡ f.bytes + (2 * length p + 2)
+      → g.room ≡ f.room → (out' : List ℕ) → length out' ≡ length out
       → (f.bytes + (2 * length p + 2) ≤ length out → out' ≡ sets out f.bytes (encode (length p ∷ p)))
-      → Adds room (p ∷ []) out out' f
-      (Ok (record { patterns = f.patterns + 1; bytes = f.bytes + (2 * length p + 2) }))
-  adds_one out' long w =
+      → Adds (p ∷ []) out out' f (Ok g)
+  adds_one g patterns bytes room out' long w =
       let e = entry_length p in
       record {
         adds =
             λ ps out₀ t. let here : f.bytes ≡ 0 + length (entries ps) = omega (arith, t.counted) in record {
               long = long ∙ t.long;
+              within = room ∙ t.within;
               counted = (
-                omega (arith, t.counted, length-append ps (p ∷ [])),
-                omega (arith, e, here, entries-length ps (p ∷ [])),
+                omega (arith, patterns, t.counted, length-append ps (p ∷ [])),
+                omega (arith, bytes, e, here, entries-length ps (p ∷ [])),
               );
               written =
-                  λ fits. w (omega arith) ∙ ap (sets out f.bytes) (sym (entry_of p)) ∙ rw (
-                    t.written (omega arith),
+                  λ fits. w (omega (arith, bytes)) ∙ ap (sets out f.bytes) (sym (entry_of p)) ∙ rw (
+                    t.written (omega (arith, bytes)),
                     here,
                     entries-append ps (p ∷ []),
                   ) (sets-append out₀ 0 (entries ps) (entries (p ∷ [])));

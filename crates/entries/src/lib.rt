@@ -2,18 +2,15 @@
 // where it fits there.
 #![tactic(auto)]
 
-ghost use Rattle.std.specs.Prelude.{◌+◌, ◌*◌, ◌<◌, ◌≤◌, ◌≡◌, [], ◌∷◌, length, IfOk};
+mod found;
+
+ghost use Rattle.std.specs.Prelude.{◌+◌, ◌*◌, ◌<◌, ◌≤◌, ◌≡◌, [], ◌∷◌, length};
 ghost use Rattle.std.proofs.lemmas.List.Edits.{sets};
 ghost use Rattle.model.specs.Bytes.{encode};
 ghost use Rattle.model.specs.Pattern.{largest_pattern};
-ghost use Rattle.entries.specs.Taken.{Adds, Roomy};
+ghost use Rattle.entries.specs.Taken.{Adds};
 
-// What a search has found: patterns and the bytes of their entries.
-#[derive(Clone, Copy, Debug, PartialEq, Eq)]
-pub struct Found {
-    pub patterns: usize,
-    pub bytes: usize,
-}
+pub use found::Found;
 
 // Why a search ends early: the entries of what it has found take more than the room.
 #[derive(Clone, Copy, Debug, PartialEq, Eq)]
@@ -44,23 +41,18 @@ fn write_rest(out: &mut [u8], at: usize, pattern: &[u16])
 }
 
 // Takes a pattern: counts it and writes its entry, unless the entries then exceed the room.
-pub fn take_pattern(
-    out: &mut [u8],
-    pattern: &[u16],
-    room: usize,
-    found: Found,
-) -> Result<Found, Full>
-    requires { (length pattern.now ≤ largest_pattern) × Roomy room found }
-    ensures roomy { IfOk result (Roomy room) }
-    ensures adds { Adds room (pattern.now ∷ []) out.old out.new found result }
+pub fn take_pattern(out: &mut [u8], pattern: &[u16], found: Found) -> Result<Found, Full>
+    requires { length pattern.now ≤ largest_pattern }
+    ensures { Adds (pattern.now ∷ []) out.old out.new found result }
 {
     let bytes = 2 * pattern.len() + 2;
-    if room - found.bytes < bytes {
+    if found.room - found.bytes < bytes {
         return Err(Full);
     }
     write_rest(out, found.bytes, pattern);
     Ok(Found {
         patterns: found.patterns + 1,
         bytes: found.bytes + bytes,
+        room: found.room,
     })
 }

@@ -18,7 +18,7 @@ use Rattle.model.specs.Calls.List.{largest_size, entries, listing, list_refusal,
 use Rattle.laws.specs.Answered.{refused_listing}
 use Rattle.laws.proofs.Tests.{equal?, at-most?}
 use Rattle.laws.proofs.Parts.{sets-written}
-use Rattle.entries.specs.declared.Found.{Found}
+use Rattle.entries.specs.declared.found.Found.{Found}
 use Rattle.entries.specs.declared.Full.{Full}
 use Rattle.entries.specs.Taken.{Taken}
 use Rattle.listing.specs.Delivered.{Delivered}

@@ -1,6 +1,6 @@
 -- The chains of one event with which the search begins, and the walk over them. Assumes nothing.
 use Prim.Native.Nat.{ℕ, suc, ◌-◌, ◌≤◌}
-use mathlib.Core.Path.{◌≡◌, refl, ◌∙◌}
+use mathlib.Core.Path.{◌≡◌, refl, subst, ◌∙◌}
 use mathlib.Core.Logic.{◌≢◌}
 use mathlib.Core.Bool.{false}
 use mathlib.Core.List.{List, [], ◌++◌}
@@ -16,9 +16,9 @@ use Rattle.model.specs.Pattern.{largest_pattern}
 use Rattle.model.specs.Listing.{deadlocks}
 use Rattle.laws.specs.Chain.{signature, start}
 use Rattle.laws.specs.Walk.{beginning}
-use Rattle.entries.specs.declared.Found.{Found}
+use Rattle.entries.specs.declared.found.Found.{Found}
 use Rattle.entries.specs.declared.Full.{Full}
-use Rattle.entries.specs.Taken.{Taken, Adds, Roomy}
+use Rattle.entries.specs.Taken.{Taken, Adds}
 use Rattle.entries.proofs.Laws.{taken_over}
 use Rattle.pruning.specs.Linked.{is_nested, Link, Unreturned, WaysBack}
 use Rattle.pruning.proofs.Nested.{acquire_free}
@@ -47,7 +47,6 @@ unreturned σ a count (Some back) n z = cc
 -- The walk has come to a place: what the events to there begin has been taken.
 pub record Searching (σ : Trace) (k room at : ℕ) (out₀ out : List ℕ) (f : Found) : Type 0 where
   pub high : at ≤ length σ
-  pub roomy : Roomy room f
   pub taken : Taken room (each (beginning σ k) (from 1 at)) out₀ out (Ok f)
 
 -- An event that is not nested begins nothing.
@@ -67,21 +66,24 @@ module _ {σ : Trace} {k room at : ℕ} {out₀ out : List ℕ} {f : Found}
       rw (deadlocks-beginning σ k l, all) z.taken
 
   module _ {a : ℕ} (d : a ≢ 0) (y : Link σ at a) {out' : List ℕ} where
-    more : {r : Result Found Full} → Adds room (beginning σ k a) out out' f r
+    more : {r : Result Found Full} → Adds (beginning σ k a) out out' f r
         → Taken room (each (beginning σ k) (from 1 a)) out₀ out' r
-    more b =
+    more {r} b =
         let one : each (beginning σ k) (from 1 a) ≡ each (beginning σ k) (from 1 at) ++ beginning σ k a =
         rw (sub-zero a, sub-zero at) at (each_first (is_nested σ) (beginning σ k) (length σ) 0 at
         (omega arith) (λ e h i. beginning_free σ k e) a y d) in
-        rw one (b.adds _ out₀ z.taken)
+        let within : f.room ≡ room = z.taken.within in
+        rw one (subst (λ (n : ℕ). Taken n (each (beginning σ k) (from 1 at)) out₀ out (Ok f)
+        → Taken n (each (beginning σ k) (from 1 at) ++ beginning σ k a) out₀ out' r) within
+        (b.adds _ out₀) z.taken)
 
     -- The walk goes on behind the next one,
-    pub searching-next : {f' : Found} → Adds room (beginning σ k a) out out' f (Ok f') → Roomy room f'
+    pub searching-next : {f' : Found} → Adds (beginning σ k a) out out' f (Ok f')
         → Searching σ k room a out₀ out' f'
-    searching-next b r = record { high = (y.passes d).1; roomy = r; taken = more b }
+    searching-next b = record { high = (y.passes d).1; taken = more b }
 
     -- or where what is taken exceeds the room, so does all.
-    pub searching_over : suc k ≤ largest_pattern → {x : Full} → Adds room (beginning σ k a) out out' f (Err x)
+    pub searching_over : suc k ≤ largest_pattern → {x : Full} → Adds (beginning σ k a) out out' f (Err x)
         → Taken room (deadlocks σ (suc k)) out₀ out' (Err x)
     searching_over l {x} b =
         rw (deadlocks-beginning σ k l, whole) (taken_over room _ _ out₀ out' x (more b))

@@ -27,9 +27,10 @@ use Rattle.chain.specs.declared.Grown.{Grown}
 use Rattle.chain.specs.declared.Trial.{Trial}
 use Rattle.chain.specs.declared.Trial.TheVariants.{Success, Failure, TaskFailure, Skipped}
 use Rattle.chain.specs.Attempted.{Attempted, excluded_after}
-use Rattle.entries.specs.declared.Found.{Found}
+use Rattle.chain.proofs.Laws.{along_itself}
+use Rattle.entries.specs.declared.found.Found.{Found}
 use Rattle.entries.specs.declared.Full.{Full}
-use Rattle.entries.specs.Taken.{Adds, Roomy}
+use Rattle.entries.specs.Taken.{Adds}
 use Rattle.entries.proofs.Laws.{adds_none, adds_trans, adds_over}
 use Rattle.listing.specs.Open.{completions}
 
@@ -40,35 +41,32 @@ passes σ x f = fits (signature σ) (of_events [] x) f
 -- The scan of the events that may follow a chain has come to a place: what the events to there add has been
 -- taken, and of the later ones those that x does not pass, the chain with the tasks that are excluded, add
 -- nothing.
-pub record Scanning (σ : Trace) (k : ℕ) (c : Chain) (room : ℕ) (x : Kept) (at : ℕ) (out₀ out : List ℕ)
+pub record Scanning (σ : Trace) (k : ℕ) (c : Chain) (x : Kept) (at : ℕ) (out₀ out : List ℕ)
     (f₀ f : Found) : Type 0 where
   pub same : (x.last ≡ c.last) × (x.guards ≡ c.guards)
   pub covers : Covers c.tasks x.tasks
   pub low : c.first ≤ at
   pub high : at ≤ length σ
   pub passed : (g : ℕ) → at < g → g ≤ length σ → passes σ x g ≡ false → branch σ k c g ≡ []
-  pub roomy : Roomy room f
-  pub adds : Adds room (each (branch σ k c) (from (suc c.first) (at - c.first))) out₀ out f₀ (Ok f)
+  pub adds : Adds (each (branch σ k c) (from (suc c.first) (at - c.first))) out₀ out f₀ (Ok f)
 
 -- At first only the chain's own tasks are excluded.
-pub scanning-start : {σ : Trace} {k : ℕ} {p : List ℕ} {x : Kept} {room : ℕ} → x.first ≤ length σ
-    → {out : List ℕ} {f : Found} → Roomy room f
-    → Scanning σ k (of_events p x) room x x.first out out f f
-scanning-start {σ} {k} {p} {x} {room} inside {out} {f} r = record {
+pub scanning-start : {σ : Trace} {k : ℕ} {p : List ℕ} {x : Kept} → x.first ≤ length σ
+    → {out : List ℕ} {f : Found} → Scanning σ k (of_events p x) x x.first out out f f
+scanning-start {σ} {k} {p} {x} inside {out} {f} = record {
   same = (refl, refl);
   covers = λ l t. t;
   low = omega arith;
   high = inside;
   passed = λ g h i. branch_unfit σ k (of_events p x) g;
-  roomy = r;
-  adds = let none : x.first - x.first ≡ 0 = omega arith in rw none (adds_none room out f);
+  adds = let none : x.first - x.first ≡ 0 = omega arith in rw none (adds_none out f);
 }
 
-module _ {σ : Trace} {k : ℕ} {c : Chain} {room : ℕ} {x : Kept} {at : ℕ} {out₀ out : List ℕ} {f₀ f : Found}
-    (z : Scanning σ k c room x at out₀ out f₀ f) where
+module _ {σ : Trace} {k : ℕ} {c : Chain} {x : Kept} {at : ℕ} {out₀ out : List ℕ} {f₀ f : Found}
+    (z : Scanning σ k c x at out₀ out f₀ f) where
   -- Where none is left that passes, all is taken.
   pub scanning_end : First (passes σ x) (length σ) at 0
-      → Adds room (extensions σ (suc k) c) out₀ out f₀ (Ok f)
+      → Adds (extensions σ (suc k) c) out₀ out f₀ (Ok f)
   scanning_end y =
       rw (
         extensions-suc σ k c,
@@ -99,27 +97,27 @@ module _ {σ : Trace} {k : ℕ} {c : Chain} {room : ℕ} {x : Kept} {at : ℕ} {
     module _ {met : Trial} {old new : Grown} (t : Attempted σ k c e met old new) where
       -- Attempted with success, it adds what begins with the longer chain,
       pub scanning_adds : met ≡ Success → (c' : Chain) → c' ≡ add (signature σ) c e → {out' : List ℕ}
-          → {r : Result Found Full} → Adds room (completions σ k c') out out' f r
-          → Adds room (branch σ k c e) out out' f r
+          → {r : Result Found Full} → Adds (completions σ k c') out out' f r
+          → Adds (branch σ k c e) out out' f r
       scanning_adds s c' is {out'} {r} =
-          subst (λ (ps : List (List ℕ)). Adds room ps out out' f r)
+          subst (λ (ps : List (List ℕ)). Adds ps out out' f r)
           (ap (completions σ k) is ∙ sym (branch_deadlock σ k c e scanning-fits (t.deadlock s)))
 
       -- and otherwise nothing.
-      pub scanning_drops : met ≢ Success → Rooted σ c → Adds room (branch σ k c e) out out f (Ok f)
-      scanning_drops n rooted = rw (t.dropped n rooted) (adds_none room out f)
+      pub scanning_drops : met ≢ Success → Rooted σ c → Adds (branch σ k c e) out out f (Ok f)
+      scanning_drops n rooted = rw (t.dropped n c (along_itself rooted)) (adds_none out f)
 
-    module _ {out' : List ℕ} {r : Result Found Full} (a : Adds room (branch σ k c e) out out' f r) where
+    module _ {out' : List ℕ} {r : Result Found Full} (a : Adds (branch σ k c e) out out' f r) where
       -- What was taken with it.
-      taken : Adds room (each (branch σ k c) (from (suc c.first) (e - c.first))) out₀ out' f₀ r
+      taken : Adds (each (branch σ k c) (from (suc c.first) (e - c.first))) out₀ out' f₀ r
       taken =
           rw (each_first (passes σ x) (branch σ k c) (length σ) c.first at z.low z.passed e y d)
-          (adds_trans room _ (branch σ k c e) out₀ out out' f₀ f r z.adds a)
+          (adds_trans _ (branch σ k c e) out₀ out out' f₀ f r z.adds a)
 
     -- Where that exceeds the room, so does all.
-    pub scanning_over : {out' : List ℕ} {v : Full} → Adds room (branch σ k c e) out out' f (Err v)
-        → Adds room (extensions σ (suc k) c) out₀ out' f₀ (Err v)
-    scanning_over {out'} {v} a = rw whole (adds_over room _ _ out₀ out' f₀ v (taken a))
+    pub scanning_over : {out' : List ℕ} {v : Full} → Adds (branch σ k c e) out out' f (Err v)
+        → Adds (extensions σ (suc k) c) out₀ out' f₀ (Err v)
+    scanning_over {out'} {v} a = rw whole (adds_over _ _ out₀ out' f₀ v (taken a))
       where
         whole : extensions σ (suc k) c
             ≡ each (branch σ k c) (from (suc c.first) (e - c.first))
@@ -136,9 +134,9 @@ module _ {σ : Trace} {k : ℕ} {c : Chain} {room : ℕ} {x : Kept} {at : ℕ} {
     -- The scan goes on behind it.
     pub scanning-next : Rooted σ c → {met : Trial} {old new : Grown} → Attempted σ k c e met old new
         → {x' : Kept} → x' ≡ excluded_after σ x met e → {out' : List ℕ} {f' : Found}
-        → Adds room (branch σ k c e) out out' f (Ok f') → Roomy room f'
-        → Scanning σ k c room x' e out₀ out' f₀ f'
-    scanning-next rooted {met} {old} {new} t {x'} q a r = record {
+        → Adds (branch σ k c e) out out' f (Ok f')
+        → Scanning σ k c x' e out₀ out' f₀ f'
+    scanning-next rooted {met} {old} {new} t {x'} q a = record {
       same = rw q (elim met as (λ m. ((excluded_after σ x m e).last ≡ c.last)
           × ((excluded_after σ x m e).guards ≡ c.guards)) [
             | TaskFailure ↦ z.same
@@ -150,7 +148,6 @@ module _ {σ : Trace} {k : ℕ} {c : Chain} {room : ℕ} {x : Kept} {at : ℕ} {
       low = omega (arith, scanning_event);
       high = scanning_event.2;
       passed = rest met t q;
-      roomy = r;
       adds = taken a;
     }
       where
@@ -172,7 +169,7 @@ module _ {σ : Trace} {k : ℕ} {c : Chain} {room : ℕ} {x : Kept} {at : ℕ} {
         rest Skipped t q g h i m = more g h i (rw q at m)
         rest TaskFailure t q g h i m =
             ⊎_elim
-            (λ (w : task σ g ≡ task σ e). t.later refl rooted g h i w)
+            (λ (w : task σ g ≡ task σ e). t.later refl c (along_itself rooted) g h i w)
             (λ (w : task σ g ≢ task σ e). more g h i (rw (
               q,
               has_bit-set x.tasks (task σ e) (task σ g),

@@ -2,7 +2,7 @@
 use Rattle.std.specs.Prelude.{ℕ, ◌≤◌, ◌<◌, ◌≡◌, List, length, Result, IfOk, OnErr}
 use Rattle.std.proofs.lemmas.List.Edits.{sets}
 use Rattle.model.specs.Calls.List.{entries}
-use Rattle.entries.specs.declared.Found.{Found}
+use Rattle.entries.specs.declared.found.Found.{Found}
 use Rattle.entries.specs.declared.Full.{Full}
 
 -- The entries of the patterns ps do not fit the output, and it is as before; or they are counted, and

@@ -1,6 +1,6 @@
 // The search for deadlocks: depth first over acquires that hold locks, in the listing's order. What it finds
 // is taken as entries.
-ghost use Rattle.std.specs.Prelude.{suc, ◌+◌, ◌*◌, ◌-◌, ◌<◌, ◌≤◌, ◌≡◌, T, length, IfOk};
+ghost use Rattle.std.specs.Prelude.{suc, ◌+◌, ◌*◌, ◌-◌, ◌<◌, ◌≤◌, ◌≡◌, T, length};
 ghost use Rattle.model.specs.Trace.{tasks, is_acquire};
 ghost use Rattle.model.specs.Recording.{decode_all};
 ghost use Rattle.model.specs.Pattern.{largest_pattern};
@@ -8,7 +8,7 @@ ghost use Rattle.model.specs.Listing.{deadlocks};
 ghost use Rattle.laws.specs.Chain.{signature, start};
 ghost use Rattle.laws.specs.Walk.{extensions, beginning};
 ghost use Rattle.laws.specs.Returning.{Leading, Returning};
-ghost use Rattle.entries.specs.Taken.{Taken, Adds, Roomy};
+ghost use Rattle.entries.specs.Taken.{Taken, Adds};
 ghost use Rattle.chain.specs.Attempted.{chain_of};
 ghost use Rattle.listing.specs.Open.{Open, completions};
 
@@ -18,14 +18,13 @@ use frontier::Frontier;
 use pruning::Links;
 
 // A search for the deadlocks of at most `largest` events that begin with one event: the links of the
-// recording's events, the first one, the locks that lead back to it, and the room for entries.
+// recording's events, the first one, and the locks that lead back to it.
 #[derive(Drop)]
 struct Search<'a> {
     links: &'a Links<'a>,
     first: usize,
     largest: usize,
     back: [u64; 16],
-    room: usize,
     ghost sized: { (2 ≤ largest) × (largest ≤ largest_pattern) },
     ghost returning: { Returning (decode_all links.now.trace.now.records.now) first largest back },
 }
@@ -42,14 +41,12 @@ fn descend(
     found: Found,
 ) -> Result<Found, Full>
     requires { Open (decode_all search.now.links.now.trace.now.records.now) search.now.first
-        search.now.largest path.now k frontier.now
-        × Roomy search.now.room found }
-    ensures roomy { IfOk result (Roomy search.now.room) }
-    ensures adds { Adds search.now.room (completions (decode_all search.now.links.now.trace.now.records.now) k
-        (chain_of path.now)) out.old out.new found result }
+        search.now.largest path.now k frontier.now }
+    ensures { Adds (completions (decode_all search.now.links.now.trace.now.records.now) k (chain_of path.now))
+        out.old out.new found result }
 {
     if path.chain.closes(search.links.trace) {
-        return entries::take_pattern(out, path.events(), search.room, found);
+        return entries::take_pattern(out, path.events(), found);
     }
     if k == 0 {
         return Ok(found);
@@ -70,10 +67,8 @@ fn extend(
 ) -> Result<Found, Full>
     requires { Open (decode_all search.now.links.now.trace.now.records.now) search.now.first
         search.now.largest path.now left frontier.now
-        × (1 ≤ left) × Roomy search.now.room found }
-    ensures roomy { IfOk result (Roomy search.now.room) }
-    ensures adds { Adds search.now.room
-        (extensions (decode_all search.now.links.now.trace.now.records.now) left (chain_of path.now))
+        × (1 ≤ left) }
+    ensures { Adds (extensions (decode_all search.now.links.now.trace.now.records.now) left (chain_of path.now))
         out.old out.new found result }
 {
     let trace = search.links.trace;
@@ -106,10 +101,8 @@ fn extend(
 fn begin(search: &Search, out: &mut [u8], found: Found) -> Result<Found, Full>
     requires { (1 ≤ search.now.first)
         × (2 * search.now.first ≤ length search.now.links.now.trace.now.records.now)
-        × T (is_acquire (decode_all search.now.links.now.trace.now.records.now) search.now.first)
-        × Roomy search.now.room found }
-    ensures roomy { IfOk result (Roomy search.now.room) }
-    ensures adds { Adds search.now.room
+        × T (is_acquire (decode_all search.now.links.now.trace.now.records.now) search.now.first) }
+    ensures { Adds
         (extensions (decode_all search.now.links.now.trace.now.records.now) (search.now.largest - 1)
         (start (signature (decode_all search.now.links.now.trace.now.records.now)) search.now.first))
         out.old out.new found result }
@@ -129,15 +122,13 @@ fn search_first(
     a: usize,
     largest: usize,
     out: &mut [u8],
-    room: usize,
     found: Found,
 ) -> Result<Found, Full>
     requires { Leading (decode_all links.now.trace.now.records.now) 0 tasks 0 lead.now
         × (1 ≤ a) × (2 * a ≤ length links.now.trace.now.records.now)
         × T (is_acquire (decode_all links.now.trace.now.records.now) a)
-        × (2 ≤ largest) × (largest ≤ largest_pattern) × Roomy room found }
-    ensures roomy { IfOk result (Roomy room) }
-    ensures adds { Adds room (beginning (decode_all links.now.trace.now.records.now) (largest - 1) a)
+        × (2 ≤ largest) × (largest ≤ largest_pattern) }
+    ensures { Adds (beginning (decode_all links.now.trace.now.records.now) (largest - 1) a)
         out.old out.new found result }
 {
     let trace = links.trace;
@@ -153,7 +144,6 @@ fn search_first(
                 first: a,
                 largest,
                 back,
-                room,
             };
             begin(&search, out, found)
         }
@@ -164,18 +154,14 @@ fn search_first(
 // room; they are written where they fit the output.
 pub fn search_all(links: &Links, largest: usize, out: &mut [u8], room: usize) -> Result<Found, Full>
     requires { (2 ≤ largest) × (largest ≤ largest_pattern) }
-    ensures roomy { IfOk result (Roomy room) }
-    ensures taken { Taken room (deadlocks (decode_all links.now.trace.now.records.now) largest)
+    ensures { Taken room (deadlocks (decode_all links.now.trace.now.records.now) largest)
         out.old out.new result }
 {
     let lead = links.leads(0, None, 0);
-    let mut found = Found {
-        patterns: 0,
-        bytes: 0,
-    };
+    let mut found = Found::none(room);
     let mut at = 0;
     while let Some(a) = links.link(at) {
-        found = search_first(links, &lead, a, largest, out, room, found)?;
+        found = search_first(links, &lead, a, largest, out, found)?;
         at = a;
     }
     Ok(found)

@@ -1,15 +1,16 @@
 -- `entries::take_pattern` meets its contract: an entry that does not fit the room exceeds it, and one that
 -- fits is counted, and written behind those before it. Assumes nothing.
+use mathlib.Core.Path.{refl}
 use Rattle.entries.proofs.Laws.{adds_full, adds_one}
 use Rattle.entries.proofs.take_pattern.Goals as goal
 
-pub returns-then-room-found-clause-adds : goal.returns-then-room-found-clause-adds
-returns-then-room-found-clause-adds c =
+pub returns-then-found-bytes : goal.returns-then-found-bytes
+returns-then-found-bytes c =
     let a = c.args in
-    adds_full a.room a.out.now a.pattern.now a.found c.if-room-found.true _
+    adds_full a.out.now a.pattern.now a.found c.if-found-bytes.true _
 
-pub returns-clause-adds : goal.returns-clause-adds
-returns-clause-adds c =
+pub returns : goal.returns
+returns c =
     let a = c.args in
     let w = c.write_rest in
-    adds_one a.room a.out.now a.pattern.now a.found w.new.out w.auto.out w.ensures
+    adds_one a.out.now a.pattern.now a.found _ refl refl refl w.new.out w.auto.out w.ensures

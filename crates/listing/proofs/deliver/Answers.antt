@@ -17,10 +17,11 @@ returns c =
     let buffer = length-replicate {A = ℕ} 65536 0 in
     let bytes = take f.found.bytes c.search_all.new.out in
     let size = length-take f.found.bytes c.search_all.new.out in
-    let room : length bytes ≤ length out = omega (arith, found.roomy.bytes_le) in
+    let fits : f.found.bytes ≤ length out = omega (arith, f.found.roomy.1, found.within) in
+    let room : length bytes ≤ length out = omega (arith, fits) in
     let long : length bytes ≡ f.found.bytes =
     omega (arith, size, c.search_all.auto.out, buffer, c.if-bytes-gt65536.false) in
-    delivered_copied _ out _ _ f.found found.taken found.roomy.bytes_le
+    delivered_copied _ out _ _ f.found found fits
     (omega (arith, buffer, c.if-bytes-gt65536.false)) _
     (ap (λ (w : List ℕ). w ++ drop f.found.bytes out) c.copy_from_slice.ensures.after
     ∙ ap (λ (k : ℕ). bytes ++ drop k out) (sym long) ∙ sym (sets-written bytes out room))

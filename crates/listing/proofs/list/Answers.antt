@@ -44,7 +44,7 @@ returns-in-Ok c =
     let b = c.args.recording.now in
     let size = permitted (goal.at.returns-in-Ok c).In_ok-size in
     let (x, y) = list_written b c.args.largest c.args.out.now
-    (is_passed _ c.in_ok-records.ensures.outcome) size.1 _
+    (is_passed _ c.in_ok-records.ensures.outcome) size.1 _ {f = c.in-Ok.found}
     (rw (← c.in_ok-records.ensures.events, ← c.new-trace.ensures, ← c.new.ensures, ← size.0)
     c.in-Ok.ensures) in
     record { answer = x; output = y }

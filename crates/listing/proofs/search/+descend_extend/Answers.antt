@@ -27,13 +27,13 @@ event t c =
 
 pub descend-closes-requires : goal.descend-closes-requires
 descend-closes-requires t c =
-    let z = c.requires.0.traced in
+    let z = c.requires.traced in
     let size = decode_all-length c.args.search.now.links.now.trace.now.records.now in
     (z.first_event.0, omega (arith, z.first_event), z.last_event.0, omega (arith, z.last_event), z.acquires)
 
 pub extend-loop-e-init : goal.extend-loop-e-init
 extend-loop-e-init t c = record {
-  scanning = scanning-start c.requires.0.traced.first_event.1 c.requires.2;
+  scanning = scanning-start c.requires.0.traced.first_event.1;
   kept = remembered_none c.new-grown.ensures;
 }
 
@@ -80,23 +80,19 @@ extend-descend-requires t c =
     let z = c.loop-e.invariant.scanning in
     let (one, low, high) = scanning_event z d y in (
       omega (arith, c.decreases, c.requires.1),
-      (
-        open_with _ c.requires.0 c.requires.1 c.in-Some.e one high (scanning_acquire z d y) c.with.result
-            c.attempt-met.new.self.frontier c.with.ensures.len c.with.ensures.chain
-            (c.attempt-met.ensures.grows (λ q. cc (c.in-Success.is))),
-        z.roomy,
-      ),
+      open_with _ c.requires.0 c.requires.1 c.in-Some.e one high (scanning_acquire z d y) c.with.result
+          c.attempt-met.new.self.frontier c.with.ensures.len c.with.ensures.chain
+          (c.attempt-met.ensures.grows (λ q. cc (c.in-Success.is))),
     )
 
-pub extend-returns-in_err-taken-in-Success-clause-adds :
-    goal.extend-returns-in_err-taken-in-Success-clause-adds
-extend-returns-in_err-taken-in-Success-clause-adds t c =
+pub extend-returns-in_err-taken-in-Success : goal.extend-returns-in_err-taken-in-Success
+extend-returns-in_err-taken-in-Success t c =
     let (d, y) = c.in-Some.ensures in
     let z = c.loop-e.invariant.scanning in
     let size : c.args.left ≡ suc (c.args.left - 1) = omega (arith, c.requires.1) in
     rw (passed_on c.from_residual.result _ c.from_residual.ensures.1, size)
     (scanning_over z d y (scanning_adds z d y c.attempt-met.ensures c.in-Success.is _ c.with.ensures.chain
-    c.in_err-taken-in-Success.ensures.adds))
+    c.in_err-taken-in-Success.ensures))
 
 pub extend-loop-e-preserved-in-Success : goal.extend-loop-e-preserved-in-Success
 extend-loop-e-preserved-in-Success t c =
@@ -105,7 +101,7 @@ extend-loop-e-preserved-in-Success t c =
     let tried = c.attempt-met.ensures in
     let done = c.in_ok-taken-in-Success.ensures in record {
       scanning = scanning-next z d y c.requires.0.traced.rooted tried c.exclude-chain.ensures
-          (scanning_adds z d y tried c.in-Success.is _ c.with.ensures.chain done.adds) done.roomy;
+          (scanning_adds z d y tried c.in-Success.is _ c.with.ensures.chain done);
       kept =
           remembered_next (scanning_event z d y).0 (remembered_later (y.passes d).0 c.loop-e.invariant.kept)
           tried;
@@ -118,13 +114,13 @@ extend-loop-e-preserved t c =
     let tried = c.attempt-met.ensures in
     let rooted = c.requires.0.traced.rooted in record {
       scanning = scanning-next z d y rooted tried c.exclude-chain.ensures
-          (scanning_drops z d y tried c.in_default-met.not-Success rooted) z.roomy;
+          (scanning_drops z d y tried c.in_default-met.not-Success rooted);
       kept =
           remembered_next (scanning_event z d y).0 (remembered_later (y.passes d).0 c.loop-e.invariant.kept)
           tried;
     }
 
-pub extend-returns-clause-adds : goal.extend-returns-clause-adds
-extend-returns-clause-adds t c =
+pub extend-returns : goal.extend-returns
+extend-returns t c =
     let size : c.args.left ≡ suc (c.args.left - 1) = omega (arith, c.requires.1) in
     rw size (scanning_end c.loop-e.invariant.scanning c.in_default.ensures)

@@ -20,7 +20,7 @@ decreases-extend l = 2 * l.left
 abbrev pub invariant-extend-loop-e : goal.invariant-extend-loop-e
 invariant-extend-loop-e l = record {
   scanning : Scanning (decode_all l.search.links.now.trace.now.records.now) (l.left - 1) (chain_of l.path)
-      l.search.room l.chain l.at l.initial.out l.out l.initial.taken l.taken;
+      l.chain l.at l.initial.out l.out l.initial.taken l.taken;
   kept : Remembered (decode_all l.search.links.now.trace.now.records.now) (chain_of l.path).events (suc l.at)
       l.grown;
 }

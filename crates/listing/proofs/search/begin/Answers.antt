@@ -31,5 +31,4 @@ extend-requires-2 c =
       open_start σ search.first search.largest _ _ event.0 event.1 c.requires.2 search.sized.0
           c.start-path.ensures.len c.start-path.ensures.chain before,
       omega (arith, search.sized),
-      c.requires.3,
     )

@@ -6,8 +6,12 @@ use native.Mathlib.Omega.{arith}
 use Rattle.laws.proofs.Trace.{decode_all-length}
 use Rattle.laws.proofs.Results.{passed_on}
 use Rattle.pruning.proofs.Nested.{nested_acquire}
+use Rattle.entries.proofs.Laws.{taken_none}
 use Rattle.listing.proofs.Beginnings.{searching-next, searching_over, searching_end}
 use Rattle.listing.proofs.search.search_all.Goals as goal
+
+pub loop-a-init : goal.loop-a-init
+loop-a-init c = record { high = omega arith; taken = taken_none c.none-found.ensures }
 
 pub link-requires : goal.link-requires
 link-requires c =
@@ -23,24 +27,22 @@ search_first-requires c =
       nested_acquire _ c.in-Some.a e.2,
       c.requires.0,
       c.requires.1,
-      c.loop-a.invariant.roomy,
     )
 
-pub returns-in_err-found-clause-taken : goal.returns-in_err-found-clause-taken
-returns-in_err-found-clause-taken c =
+pub returns-in_err-found : goal.returns-in_err-found
+returns-in_err-found c =
     let (d, y) = c.in-Some.ensures in
     let size : c.args.largest ≡ suc (c.args.largest - 1) = omega (arith, c.requires.0) in
     rw (passed_on c.from_residual.result _ c.from_residual.ensures.1, size)
     (searching_over c.loop-a.invariant d y (omega (arith, c.requires.0, c.requires.1))
-    c.in_err-found.ensures.adds)
+    c.in_err-found.ensures)
 
 pub loop-a-preserved : goal.loop-a-preserved
 loop-a-preserved c =
     let (d, y) = c.in-Some.ensures in
-    let done = c.in_ok-found.ensures in
-    searching-next c.loop-a.invariant d y done.adds done.roomy
+    searching-next c.loop-a.invariant d y c.in_ok-found.ensures
 
-pub returns-clause-taken : goal.returns-clause-taken
-returns-clause-taken c =
+pub returns : goal.returns
+returns c =
     let q : c.args.largest ≡ suc (c.args.largest - 1) = omega (arith, c.requires.0) in
     rw q (searching_end c.loop-a.invariant c.in_default.ensures (omega (arith, c.requires.0, c.requires.1)))

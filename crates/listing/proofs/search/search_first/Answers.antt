@@ -23,20 +23,20 @@ ways_back-requires c =
       c.requires.5,
     )
 
-pub returns-then-is_none-clause-adds : goal.returns-then-is_none-clause-adds
-returns-then-is_none-clause-adds c =
+pub returns-then-is_none : goal.returns-then-is_none
+returns-then-is_none c =
     let a = c.args in
     rw (beginning_nowhere (decode_all a.links.now.trace.now.records.now) a.a a.largest c.requires.3
     c.requires.4 (unreturned _ _ _ c.ways_back.result c.if-is_none.ensures c.ways_back.ensures))
-    (adds_none a.room _ a.found)
+    (adds_none _ a.found)
 
-pub returns-in-None-clause-adds : goal.returns-in-None-clause-adds
-returns-in-None-clause-adds c =
+pub returns-in-None : goal.returns-in-None
+returns-in-None c =
     let a = c.args in
     rw (beginning_nowhere (decode_all a.links.now.trace.now.records.now) a.a a.largest c.requires.3
-    c.requires.4 c.in-None.ensures) (adds_none a.room _ a.found)
+    c.requires.4 c.in-None.ensures) (adds_none _ a.found)
 
-pub returns-in-Some-clause-adds : goal.returns-in-Some-clause-adds
-returns-in-Some-clause-adds c =
+pub returns-in-Some : goal.returns-in-Some
+returns-in-Some c =
     let σ = decode_all c.args.links.now.trace.now.records.now in
-    rw (beginning_acquire σ _ c.args.a (is_true (is_acquire σ c.args.a) c.requires.3)) c.begin.ensures.adds
+    rw (beginning_acquire σ _ c.args.a (is_true (is_acquire σ c.args.a) c.requires.3)) c.begin.ensures
