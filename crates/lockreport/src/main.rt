@@ -19,12 +19,12 @@ const INPUT: usize = 8193;
 
 // Puts the line of a pattern: "deadlock" and its event numbers, each from two bytes.
 fn put_pattern(text: &mut String, events: &[u8]) -> Result<(), AllocError> {
-    printing::put(text, "deadlock")?;
+    printing::push(text, "deadlock")?;
     let (numbers, _) = events.as_chunks::<2>();
     for number in numbers {
-        printing::put_spaced(text, u64::from(u16::from_be_bytes(*number)))?;
+        printing::push_spaced(text, u64::from(u16::from_be_bytes(*number)))?;
     }
-    printing::put(text, "\n")
+    printing::push(text, "\n")
 }
 
 // Parts entries into the event numbers of the first, behind its size, and the other entries.
