@@ -56,10 +56,7 @@ pub fn list(recording: &[u8], largest: u64, out: &mut [u8]) -> Result<Entries, R
     let size = size_of(largest)?;
     let trace = Trace::new(&records);
     match deliver(&Links::new(&trace), size, out) {
-        Ok(found) => Ok(Entries {
-            patterns: found.patterns as u64,
-            bytes: found.bytes as u64,
-        }),
+        Ok(found) => Ok(found.into()),
         Err(Full) => Err(Question::OutputLength.into()),
     }
 }

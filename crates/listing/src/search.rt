@@ -68,8 +68,8 @@ fn extend(
     requires { Open (decode_all search.now.links.now.trace.now.records.now) search.now.first
         search.now.largest path.now left frontier.now
         × (1 ≤ left) }
-    ensures { Adds (extensions (decode_all search.now.links.now.trace.now.records.now) left (chain_of path.now))
-        out.old out.new found result }
+    ensures { Adds (extensions (decode_all search.now.links.now.trace.now.records.now) left
+        (chain_of path.now)) out.old out.new found result }
 {
     let trace = search.links.trace;
     let mut grown = Grown::new();

@@ -47,7 +47,7 @@ returns-in-Ok c =
     (is_passed _ c.in_ok-records.ensures.outcome) size.1 _ {f = c.in-Ok.found}
     (rw (← c.in_ok-records.ensures.events, ← c.new-trace.ensures, ← c.new.ensures, ← size.0)
     c.in-Ok.ensures) in
-    record { answer = x; output = y }
+    record { answer = rw (c.into.ensures.0, c.into.ensures.1) x; output = y }
 
 pub returns-in-Err : goal.returns-in-Err
 returns-in-Err c =
@@ -57,4 +57,4 @@ returns-in-Err c =
     (is_passed _ c.in_ok-records.ensures.outcome) size.1 _
     (rw (← c.in_ok-records.ensures.events, ← c.new-trace.ensures, ← c.new.ensures, ← size.0)
     c.in-Err.ensures) in
-    record { answer = rw c.into.ensures (sym x); output = y }
+    record { answer = rw c.into-in-Err.ensures (sym x); output = y }
