@@ -1,5 +1,7 @@
 // What a search has found so far.
-ghost use Rattle.std.specs.Prelude.{◌*◌, ◌≤◌, ◌≡◌};
+ghost use Rattle.std.specs.Prelude.{◌≤◌, ◌≡◌};
+
+use model::Entries;
 
 // What a search has found: patterns and the bytes of their entries, of which there is room for some.
 #[derive(Clone, Copy, Debug, PartialEq, Eq)]
@@ -19,6 +21,20 @@ impl Found {
             patterns: 0,
             bytes: 0,
             room,
+        }
+    }
+}
+
+impl From<Found> for Entries {
+    ghost use Rattle.std.specs.Prelude.{◌≡◌};
+
+    ghost from_gives = { λ f r. (r.patterns ≡ f.patterns) × (r.bytes ≡ f.bytes) };
+
+    // What a listing answers of what was found.
+    fn from(found: Found) -> Entries {
+        Entries {
+            patterns: found.patterns as u64,
+            bytes: found.bytes as u64,
         }
     }
 }

@@ -46,15 +46,14 @@ pub size_itself : (k : ℕ) → 2 ≤ k → k ≤ 16 → Ok k ≡ asked_size k
 unfolding permits_size largest_size
 size_itself k h l = rw (ne_eqb k 0 (λ q. omega arith), le-leb 2 k h, le-leb k 16 l)
 
--- Question 8: a size is refused, or is 2 to 16 after 0 has been replaced.
-pub size_question : (k : ℕ) → (permits_size k ≡ outcome 8 0)
-    ⊎ ((permits_size k ≡ outcome 0 0) × (2 ≤ largest_size k) × (largest_size k ≤ 16))
-unfolding permits_size largest_size
+-- Question 8: a size is refused or permitted.
+size_question : (k : ℕ) → (permits_size k ≡ outcome 8 0) ⊎ (permits_size k ≡ outcome 0 0)
+unfolding permits_size
 size_question k =
-    ⊎_elim (λ (q : k ≡ 0). inr (rw q (refl, omega arith, omega arith)))
+    ⊎_elim (λ (q : k ≡ 0). inr (rw q refl))
     (λ (d : k ≢ 0). ⊎_elim
     (λ (h : 2 ≤ k). ⊎_elim
-    (λ (l : k ≤ 16). inr (rw (ne_eqb k 0 d, le-leb 2 k h, le-leb k 16 l) (refl, h, l)))
+    (λ (l : k ≤ 16). inr (rw (ne_eqb k 0 d, le-leb 2 k h, le-leb k 16 l)))
     (λ (l : 16 < k). inl (rw (ne_eqb k 0 d, le-leb 2 k h, lt-leb k 16 l)))
     (at-most? k 16))
     (λ (h : k < 2). inl (rw (ne_eqb k 0 d, lt-leb 2 k h)))
@@ -67,20 +66,16 @@ pub size_refused : (k : ℕ) {q : Question} → Err q ≡ asked_size k
 size_refused k {q} e =
     ⊎_elim
     (λ (p : permits_size k ≡ outcome 8 0). let same = rw p at e in (cc, p))
-    (λ (p : (permits_size k ≡ outcome 0 0) × (2 ≤ largest_size k) × (largest_size k ≤ 16)).
-    let other : Err q ≡ Ok (largest_size k) = rw p.0 at e in cc)
+    (λ (p : permits_size k ≡ outcome 0 0). let other : Err q ≡ Ok (largest_size k) = rw p at e in cc)
     (size_question k)
 
--- and one that is permitted is 2 to 16.
+-- and one that is permitted is the largest size.
 pub size_permitted : (k : ℕ) {m : ℕ} → Ok m ≡ asked_size k
-    → (m ≡ largest_size k) × (permits_size k ≡ outcome 0 0) × (2 ≤ m) × (m ≤ 16)
+    → (m ≡ largest_size k) × (permits_size k ≡ outcome 0 0)
 size_permitted k {m} e =
     ⊎_elim
     (λ (p : permits_size k ≡ outcome 8 0). let other : Ok m ≡ Err LargestSize = rw p at e in cc)
-    (λ (p : (permits_size k ≡ outcome 0 0) × (2 ≤ largest_size k) × (largest_size k ≤ 16)).
-    let same : Ok m ≡ Ok (largest_size k) = rw p.0 at e in
-    let is : m ≡ largest_size k = cc in
-    (is, p.0, omega (arith, p.1), omega (arith, p.2)))
+    (λ (p : permits_size k ≡ outcome 0 0). let same : Ok m ≡ Ok (largest_size k) = rw p at e in (cc, p))
     (size_question k)
 
 -- ---- what is delivered

@@ -2,47 +2,49 @@
 #![tactic(auto)]
 
 mod search;
+mod size;
 
 ghost use Rattle.std.specs.Prelude.{◌+◌, ◌<◌, ◌≤◌, ◌≡◌, length, take};
 ghost use Rattle.std.proofs.lemmas.List.Edits.{sets};
 ghost use Rattle.model.specs.Answers.{listed_of};
 ghost use Rattle.model.specs.Recording.{decode_all};
-ghost use Rattle.model.specs.Pattern.{largest_pattern};
 ghost use Rattle.model.specs.Listing.{deadlocks};
 ghost use Rattle.model.specs.Calls.List.{list, list_out};
 ghost use Rattle.listing.specs.Delivered.{Delivered};
-ghost use Rattle.listing.specs.Size.{asked_size};
+ghost use Rattle.listing.specs.Size.{asked_size, asked_of};
 
 use entries::{Found, Full};
 use model::{Entries, Question, Refusal};
 use pruning::Links;
 use recording::Records;
 use relations::Trace;
+use size::Size;
 
-// Lists the deadlocks of at most `largest` events into the output, where all their entries fit it; else it
-// writes nothing. Only a listing of more than 65,536 bytes is searched for twice.
-fn deliver(links: &Links, largest: usize, out: &mut [u8]) -> Result<Found, Full>
-    requires { (2 ≤ largest) × (largest ≤ largest_pattern) }
-    ensures { Delivered (deadlocks (decode_all links.now.trace.now.records.now) largest) out.old
+// Lists the deadlocks of at most this size into the output, where all their entries fit it; else it writes
+// nothing. Only a listing of more than 65,536 bytes is searched for twice.
+fn deliver(links: &Links, size: Size, out: &mut [u8]) -> Result<Found, Full>
+    ensures { Delivered (deadlocks (decode_all links.now.trace.now.records.now) size.events) out.old
         out.new result }
 {
     let mut buffer = [0u8; 65536];
-    let found = search::search_all(links, largest, &mut buffer, out.len())?;
+    let found = search::search_all(links, size, &mut buffer, out.len())?;
     let bytes = found.bytes;
     if 65536 < bytes {
-        return search::search_all(links, largest, out, out.len());
+        return search::search_all(links, size, out, out.len());
     }
     out[..bytes].copy_from_slice(&buffer[..bytes]);
     Ok(found)
 }
 
 // The largest size that the argument asks for, 16 where it is 0: question 8.
-fn size_of(largest: u64) -> Result<usize, Question>
-    ensures { result ≡ asked_size largest }
+fn size_of(largest: u64) -> Result<Size, Question>
+    ensures { asked_of result ≡ asked_size largest }
 {
     match largest {
-        0 => Ok(16),
-        2..=16 => Ok(largest as usize),
+        0 => Ok(Size { events: 16 }),
+        2..=16 => Ok(Size {
+            events: largest as usize,
+        }),
         _ => Err(Question::LargestSize),
     }
 }
@@ -56,10 +58,7 @@ pub fn list(recording: &[u8], largest: u64, out: &mut [u8]) -> Result<Entries, R
     let size = size_of(largest)?;
     let trace = Trace::new(&records);
     match deliver(&Links::new(&trace), size, out) {
-        Ok(found) => Ok(Entries {
-            patterns: found.patterns as u64,
-            bytes: found.bytes as u64,
-        }),
+        Ok(found) => Ok(found.into()),
         Err(Full) => Err(Question::OutputLength.into()),
     }
 }

@@ -3,7 +3,6 @@
 ghost use Rattle.std.specs.Prelude.{suc, ◌+◌, ◌*◌, ◌-◌, ◌<◌, ◌≤◌, ◌≡◌, T, length};
 ghost use Rattle.model.specs.Trace.{tasks, is_acquire};
 ghost use Rattle.model.specs.Recording.{decode_all};
-ghost use Rattle.model.specs.Pattern.{largest_pattern};
 ghost use Rattle.model.specs.Listing.{deadlocks};
 ghost use Rattle.laws.specs.Chain.{signature, start};
 ghost use Rattle.laws.specs.Walk.{extensions, beginning};
@@ -12,21 +11,21 @@ ghost use Rattle.entries.specs.Taken.{Taken, Adds};
 ghost use Rattle.chain.specs.Attempted.{chain_of};
 ghost use Rattle.listing.specs.Open.{Open, completions};
 
+use crate::size::Size;
 use chain::{Grown, Path, Trial};
 use entries::{Found, Full};
 use frontier::Frontier;
 use pruning::Links;
 
-// A search for the deadlocks of at most `largest` events that begin with one event: the links of the
-// recording's events, the first one, and the locks that lead back to it.
+// A search for the deadlocks of at most some size that begin with one event: the links of the recording's
+// events, the first one, and the locks that lead back to it.
 #[derive(Drop)]
 struct Search<'a> {
     links: &'a Links<'a>,
     first: usize,
-    largest: usize,
+    size: Size,
     back: [u64; 16],
-    ghost sized: { (2 ≤ largest) × (largest ≤ largest_pattern) },
-    ghost returning: { Returning (decode_all links.now.trace.now.records.now) first largest back },
+    ghost returning: { Returning (decode_all links.now.trace.now.records.now) first size.events back },
 }
 
 // Takes what begins with a path that is a deadlock so far: it alone where it is complete, and otherwise what
@@ -41,7 +40,7 @@ fn descend(
     found: Found,
 ) -> Result<Found, Full>
     requires { Open (decode_all search.now.links.now.trace.now.records.now) search.now.first
-        search.now.largest path.now k frontier.now }
+        search.now.size.events path.now k frontier.now }
     ensures { Adds (completions (decode_all search.now.links.now.trace.now.records.now) k (chain_of path.now))
         out.old out.new found result }
 {
@@ -66,10 +65,10 @@ fn extend(
     found: Found,
 ) -> Result<Found, Full>
     requires { Open (decode_all search.now.links.now.trace.now.records.now) search.now.first
-        search.now.largest path.now left frontier.now
+        search.now.size.events path.now left frontier.now
         × (1 ≤ left) }
-    ensures { Adds (extensions (decode_all search.now.links.now.trace.now.records.now) left (chain_of path.now))
-        out.old out.new found result }
+    ensures { Adds (extensions (decode_all search.now.links.now.trace.now.records.now) left
+        (chain_of path.now)) out.old out.new found result }
 {
     let trace = search.links.trace;
     let mut grown = Grown::new();
@@ -103,7 +102,7 @@ fn begin(search: &Search, out: &mut [u8], found: Found) -> Result<Found, Full>
         × (2 * search.now.first ≤ length search.now.links.now.trace.now.records.now)
         × T (is_acquire (decode_all search.now.links.now.trace.now.records.now) search.now.first) }
     ensures { Adds
-        (extensions (decode_all search.now.links.now.trace.now.records.now) (search.now.largest - 1)
+        (extensions (decode_all search.now.links.now.trace.now.records.now) (search.now.size.events - 1)
         (start (signature (decode_all search.now.links.now.trace.now.records.now)) search.now.first))
         out.old out.new found result }
 {
@@ -111,7 +110,7 @@ fn begin(search: &Search, out: &mut [u8], found: Found) -> Result<Found, Full>
     let mut frontier = Frontier::empty();
     frontier.extend(trace, search.first);
     let path = Path::start(trace, search.first);
-    extend(search, &path, search.largest - 1, &frontier, out, found)
+    extend(search, &path, search.size.events - 1, &frontier, out, found)
 }
 
 // Takes the patterns that begin with the acquire a, unless its lock cannot lead back to its held locks: by
@@ -120,29 +119,28 @@ fn search_first(
     links: &Links,
     lead: &[u64; 64],
     a: usize,
-    largest: usize,
+    size: Size,
     out: &mut [u8],
     found: Found,
 ) -> Result<Found, Full>
     requires { Leading (decode_all links.now.trace.now.records.now) 0 tasks 0 lead.now
         × (1 ≤ a) × (2 * a ≤ length links.now.trace.now.records.now)
-        × T (is_acquire (decode_all links.now.trace.now.records.now) a)
-        × (2 ≤ largest) × (largest ≤ largest_pattern) }
-    ensures { Adds (beginning (decode_all links.now.trace.now.records.now) (largest - 1) a)
+        × T (is_acquire (decode_all links.now.trace.now.records.now) a) }
+    ensures { Adds (beginning (decode_all links.now.trace.now.records.now) (size.events - 1) a)
         out.old out.new found result }
 {
     let trace = links.trace;
-    if pruning::ways_back(trace, lead, a, largest).is_none() {
+    if pruning::ways_back(trace, lead, a, size.events).is_none() {
         return Ok(found);
     }
     let beside = links.leads(a, Some(trace.task(a)), trace.held(a));
-    match pruning::ways_back(trace, &beside, a, largest) {
+    match pruning::ways_back(trace, &beside, a, size.events) {
         None => Ok(found),
         Some(back) => {
             let search = Search {
                 links,
                 first: a,
-                largest,
+                size,
                 back,
             };
             begin(&search, out, found)
@@ -150,18 +148,17 @@ fn search_first(
     }
 }
 
-// Takes the deadlocks of at most `largest` events, in the listing's order, until their entries exceed the
-// room; they are written where they fit the output.
-pub fn search_all(links: &Links, largest: usize, out: &mut [u8], room: usize) -> Result<Found, Full>
-    requires { (2 ≤ largest) × (largest ≤ largest_pattern) }
-    ensures { Taken room (deadlocks (decode_all links.now.trace.now.records.now) largest)
+// Takes the deadlocks of at most this size, in the listing's order, until their entries exceed the room; they
+// are written where they fit the output.
+pub fn search_all(links: &Links, size: Size, out: &mut [u8], room: usize) -> Result<Found, Full>
+    ensures { Taken room (deadlocks (decode_all links.now.trace.now.records.now) size.events)
         out.old out.new result }
 {
     let lead = links.leads(0, None, 0);
     let mut found = Found::none(room);
     let mut at = 0;
     while let Some(a) = links.link(at) {
-        found = search_first(links, &lead, a, largest, out, found)?;
+        found = search_first(links, &lead, a, size, out, found)?;
         at = a;
     }
     Ok(found)

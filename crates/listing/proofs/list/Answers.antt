@@ -1,6 +1,5 @@
 -- `listing::list` meets its contract: the recording's questions, then 8, then what is delivered.
 -- Assumes nothing.
-use Prim.Native.Nat.{◌≤◌}
 use mathlib.Core.Path.{◌≡◌, sym}
 use Rattle.model.specs.Refused.{refusal}
 use Rattle.model.specs.Calls.Questions.{outcome, permits_size}
@@ -12,8 +11,8 @@ use Rattle.listing.proofs.list.Goals as goal
 use Rattle.listing.proofs.list.Goals.{In_ok-size}
 
 -- The size is permitted.
-permitted : (c : In_ok-size) → (c.in_ok-size.size ≡ largest_size c.args.largest)
-    × (permits_size c.args.largest ≡ outcome 0 0) × (2 ≤ c.in_ok-size.size) × (c.in_ok-size.size ≤ 16)
+permitted : (c : In_ok-size) → (c.in_ok-size.size.events ≡ largest_size c.args.largest)
+    × (permits_size c.args.largest ≡ outcome 0 0)
 permitted c = size_permitted c.args.largest c.in_ok-size.ensures
 
 pub returns-in_err-records : goal.returns-in_err-records
@@ -34,11 +33,6 @@ returns-in_err-size c =
     c.from_residual-in_err-size.ensures.1 in
     record { answer = rw (given, q) (sym x); output = sym y }
 
-pub deliver-requires : goal.deliver-requires
-deliver-requires c =
-    let size = permitted (goal.at.deliver-requires c).In_ok-size in
-    (size.2, size.3)
-
 pub returns-in-Ok : goal.returns-in-Ok
 returns-in-Ok c =
     let b = c.args.recording.now in
@@ -47,7 +41,7 @@ returns-in-Ok c =
     (is_passed _ c.in_ok-records.ensures.outcome) size.1 _ {f = c.in-Ok.found}
     (rw (← c.in_ok-records.ensures.events, ← c.new-trace.ensures, ← c.new.ensures, ← size.0)
     c.in-Ok.ensures) in
-    record { answer = x; output = y }
+    record { answer = rw (c.into.ensures.0, c.into.ensures.1) x; output = y }
 
 pub returns-in-Err : goal.returns-in-Err
 returns-in-Err c =
@@ -57,4 +51,4 @@ returns-in-Err c =
     (is_passed _ c.in_ok-records.ensures.outcome) size.1 _
     (rw (← c.in_ok-records.ensures.events, ← c.new-trace.ensures, ← c.new.ensures, ← size.0)
     c.in-Err.ensures) in
-    record { answer = rw c.into.ensures (sym x); output = y }
+    record { answer = rw c.into-in-Err.ensures (sym x); output = y }

@@ -56,7 +56,7 @@ extend-attempt-met-requires t c =
     let (low, high, acquires) = event t (goal.at.extend-attempt-met-requires t c).In-Some in (
       rw o.begins (returning_fewer (omega (arith, o.sized, c.requires.1)) search.returning),
       o.traced.events,
-      omega (arith, o.sized, search.sized, c.args.path.now.sized),
+      omega (arith, o.sized, search.size.permitted, c.args.path.now.sized),
       o.before,
       remembered (remembered_later (y.passes d).0 c.loop-e.invariant.kept),
       low,
@@ -72,7 +72,7 @@ extend-exclude-chain-requires t c =
 pub extend-with-requires : goal.extend-with-requires
 extend-with-requires t c =
     let (low, high, acquires) = event t (goal.at.extend-with-requires t c).In-Some in
-    (omega (arith, c.requires.0.sized, c.requires.1, c.args.search.now.sized), low, high)
+    (omega (arith, c.requires.0.sized, c.requires.1, c.args.search.now.size.permitted), low, high)
 
 pub extend-descend-requires : goal.extend-descend-requires
 extend-descend-requires t c =

@@ -28,7 +28,7 @@ extend-requires-2 c =
     let event = record-event trace.records.now search.first (c.requires.0, c.requires.1) in
     let before = before-extend σ (events_sound trace.records.now trace.accepted) [] _ _ search.first _ _
     (start (goal.at.extend-requires-2 c).After-empty-frontier) event.0 event.1 c.extend.ensures in (
-      open_start σ search.first search.largest _ _ event.0 event.1 c.requires.2 search.sized.0
+      open_start σ search.first search.size.events _ _ event.0 event.1 c.requires.2 search.size.permitted.0
           c.start-path.ensures.len c.start-path.ensures.chain before,
-      omega (arith, search.sized),
+      omega (arith, search.size.permitted),
     )

@@ -25,16 +25,14 @@ search_first-requires c =
       omega (arith, e.0),
       omega (arith, e.1, decode_all-length c.args.links.now.trace.now.records.now),
       nested_acquire _ c.in-Some.a e.2,
-      c.requires.0,
-      c.requires.1,
     )
 
 pub returns-in_err-found : goal.returns-in_err-found
 returns-in_err-found c =
     let (d, y) = c.in-Some.ensures in
-    let size : c.args.largest ≡ suc (c.args.largest - 1) = omega (arith, c.requires.0) in
+    let size : c.args.size.events ≡ suc (c.args.size.events - 1) = omega (arith, c.args.size.permitted.0) in
     rw (passed_on c.from_residual.result _ c.from_residual.ensures.1, size)
-    (searching_over c.loop-a.invariant d y (omega (arith, c.requires.0, c.requires.1))
+    (searching_over c.loop-a.invariant d y (omega (arith, c.args.size.permitted))
     c.in_err-found.ensures)
 
 pub loop-a-preserved : goal.loop-a-preserved
@@ -44,5 +42,5 @@ loop-a-preserved c =
 
 pub returns : goal.returns
 returns c =
-    let q : c.args.largest ≡ suc (c.args.largest - 1) = omega (arith, c.requires.0) in
-    rw q (searching_end c.loop-a.invariant c.in_default.ensures (omega (arith, c.requires.0, c.requires.1)))
+    let q : c.args.size.events ≡ suc (c.args.size.events - 1) = omega (arith, c.args.size.permitted.0) in
+    rw q (searching_end c.loop-a.invariant c.in_default.ensures (omega (arith, c.args.size.permitted)))

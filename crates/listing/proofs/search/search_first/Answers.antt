@@ -19,22 +19,22 @@ ways_back-requires c =
       c.requires.2,
       c.requires.3,
       leading-all (decode_all b) (events_sound b trace.accepted) c.args.a c.args.lead.now c.requires.0,
-      omega (arith, c.requires.4),
-      c.requires.5,
+      omega (arith, c.args.size.permitted),
+      c.args.size.permitted.1,
     )
 
 pub returns-then-is_none : goal.returns-then-is_none
 returns-then-is_none c =
     let a = c.args in
-    rw (beginning_nowhere (decode_all a.links.now.trace.now.records.now) a.a a.largest c.requires.3
-    c.requires.4 (unreturned _ _ _ c.ways_back.result c.if-is_none.ensures c.ways_back.ensures))
+    rw (beginning_nowhere (decode_all a.links.now.trace.now.records.now) a.a a.size.events c.requires.3
+    a.size.permitted.0 (unreturned _ _ _ c.ways_back.result c.if-is_none.ensures c.ways_back.ensures))
     (adds_none _ a.found)
 
 pub returns-in-None : goal.returns-in-None
 returns-in-None c =
     let a = c.args in
-    rw (beginning_nowhere (decode_all a.links.now.trace.now.records.now) a.a a.largest c.requires.3
-    c.requires.4 c.in-None.ensures) (adds_none _ a.found)
+    rw (beginning_nowhere (decode_all a.links.now.trace.now.records.now) a.a a.size.events c.requires.3
+    a.size.permitted.0 c.in-None.ensures) (adds_none _ a.found)
 
 pub returns-in-Some : goal.returns-in-Some
 returns-in-Some c =
