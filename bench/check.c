@@ -80,7 +80,7 @@ __attribute__((noipa)) static uint64_t c_check(const uint8_t *recording, size_t 
 
 /* What timed_tables has to return for an accepted recording of n events: the relations of the last one, each
  * searched for by its definition, and compared as there; an inner acquire or release, a start and a join
- * have their own number in the table of matches. With no event, every table has 0. */
+ * have their own number as the match in their row. With no event, every row has 0. */
 static uint64_t last_entries(const uint8_t *recording, size_t n) {
     unsigned first = n == 0 ? 0 : recording[2 * n];
     unsigned op = first >> 6, task = first >> 2 & 15;

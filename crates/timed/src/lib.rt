@@ -28,7 +28,7 @@ pub extern "C" fn timed_check(recording: &[u8]) -> u64
     }
 }
 
-// Compares what the tables have of the last event: a number to 4 that depends on every table, so that the
+// Compares what the last event's row and record have: a number to 4 that depends on every field, so that the
 // compiler leaves none out.
 fn compare_entries(trace: &Trace) -> u64
     ensures { result ≤ 4 }
