@@ -50,11 +50,11 @@ impl Grown {
 
     // Starts from the frontier of some events, unless the last attempt was at an event of the task of e.
     fn renew(&mut self, trace: &Trace, frontier: &Frontier, e: usize)
-        requires { (1 ≤ e) × (2 * e ≤ length trace.now.records.now) }
-        ensures own { self.new.of ≡ Some (task (decode_all trace.now.records.now) e) }
-        ensures kept { self.old.of ≡ Some (task (decode_all trace.now.records.now) e)
+        requires { (1 ≤ e) × (2 * e ≤ length trace.now.records.bytes.now) }
+        ensures own { self.new.of ≡ Some (task (decode_all trace.now.records.bytes.now) e) }
+        ensures kept { self.old.of ≡ Some (task (decode_all trace.now.records.bytes.now) e)
             → self.new.frontier ≡ self.old.frontier }
-        ensures copied { self.old.of ≢ Some (task (decode_all trace.now.records.now) e)
+        ensures copied { self.old.of ≢ Some (task (decode_all trace.now.records.bytes.now) e)
             → self.new.frontier ≡ frontier.now }
     {
         let own = Some(trace.task(e));
@@ -68,17 +68,17 @@ impl Grown {
     // Grows the frontier to that of the predecessors of some events and e: from that of the events, or where
     // the last attempt was at an event of the task of e from that of the events and this one.
     fn grow(&mut self, trace: &Trace, frontier: &Frontier, e: usize)
-        requires { Settled (decode_all trace.now.records.now) frontier.now.front frontier.now.front
+        requires { Settled (decode_all trace.now.records.bytes.now) frontier.now.front frontier.now.front
             frontier.now.latest
-            × (self.old.of ≡ Some (task (decode_all trace.now.records.now) e)
-            → Settled (decode_all trace.now.records.now) self.old.frontier.front self.old.frontier.front
+            × (self.old.of ≡ Some (task (decode_all trace.now.records.bytes.now) e)
+            → Settled (decode_all trace.now.records.bytes.now) self.old.frontier.front self.old.frontier.front
             self.old.frontier.latest)
-            × (1 ≤ e) × (2 * e ≤ length trace.now.records.now) }
-        ensures own { self.new.of ≡ Some (task (decode_all trace.now.records.now) e) }
-        ensures before { (p : List ℕ) → T (all (is_event (decode_all trace.now.records.now)) p)
-            → Before (decode_all trace.now.records.now) p frontier.now.front frontier.now.latest
-            → Reusable (decode_all trace.now.records.now) p e self.old
-            → Before (decode_all trace.now.records.now) (p ++ e ∷ []) self.new.frontier.front
+            × (1 ≤ e) × (2 * e ≤ length trace.now.records.bytes.now) }
+        ensures own { self.new.of ≡ Some (task (decode_all trace.now.records.bytes.now) e) }
+        ensures before { (p : List ℕ) → T (all (is_event (decode_all trace.now.records.bytes.now)) p)
+            → Before (decode_all trace.now.records.bytes.now) p frontier.now.front frontier.now.latest
+            → Reusable (decode_all trace.now.records.bytes.now) p e self.old
+            → Before (decode_all trace.now.records.bytes.now) (p ++ e ∷ []) self.new.frontier.front
             self.new.frontier.latest }
     {
         self.renew(trace, frontier, e);
@@ -96,15 +96,15 @@ impl Grown {
         frontier: &Frontier,
         e: usize,
     ) -> Trial
-        requires { Returning (decode_all trace.now.records.now) path.now.chain.first (suc k) back.now
-            × T (all (is_event (decode_all trace.now.records.now)) (chain_of path.now).events)
+        requires { Returning (decode_all trace.now.records.bytes.now) path.now.chain.first (suc k) back.now
+            × T (all (is_event (decode_all trace.now.records.bytes.now)) (chain_of path.now).events)
             × (k < largest_pattern)
-            × Before (decode_all trace.now.records.now) (chain_of path.now).events frontier.now.front
+            × Before (decode_all trace.now.records.bytes.now) (chain_of path.now).events frontier.now.front
             frontier.now.latest
-            × Reusable (decode_all trace.now.records.now) (chain_of path.now).events e self.old
-            × (1 ≤ e) × (2 * e ≤ length trace.now.records.now)
-            × T (is_acquire (decode_all trace.now.records.now) e) }
-        ensures { Attempted (decode_all trace.now.records.now) k (chain_of path.now) e result self.old
+            × Reusable (decode_all trace.now.records.bytes.now) (chain_of path.now).events e self.old
+            × (1 ≤ e) × (2 * e ≤ length trace.now.records.bytes.now)
+            × T (is_acquire (decode_all trace.now.records.bytes.now) e) }
+        ensures { Attempted (decode_all trace.now.records.bytes.now) k (chain_of path.now) e result self.old
             self.new }
     {
         if !deadlock::lock_in_mask(trace, back[k], e) {
@@ -115,7 +115,7 @@ impl Grown {
         if !deadlock::avoids(trace, events.len(), |i| events[i], &self.frontier) {
             return Trial::TaskFailure;
         }
-        if self.frontier.contains(trace.records, e) {
+        if self.frontier.contains(trace.records.bytes, e) {
             return Trial::Failure;
         }
         Trial::Success

@@ -20,10 +20,10 @@ pub struct Path {
 impl Path {
     // The path of the acquire a alone.
     pub fn start(trace: &Trace, a: usize) -> Path
-        requires { (1 ≤ a) × (2 * a ≤ length trace.now.records.now) }
+        requires { (1 ≤ a) × (2 * a ≤ length trace.now.records.bytes.now) }
         ensures len { result.len ≡ 1 }
         ensures chain { of_events (take result.len result.events) result.chain
-            ≡ start (signature (decode_all trace.now.records.now)) a }
+            ≡ start (signature (decode_all trace.now.records.bytes.now)) a }
     {
         let mut events = [0; 16];
         events[0] = a as u16;
@@ -36,10 +36,10 @@ impl Path {
 
     // The path and event e more.
     pub fn with(&self, trace: &Trace, e: usize) -> Path
-        requires { (self.now.len < largest_pattern) × (1 ≤ e) × (2 * e ≤ length trace.now.records.now) }
+        requires { (self.now.len < largest_pattern) × (1 ≤ e) × (2 * e ≤ length trace.now.records.bytes.now) }
         ensures len { result.len ≡ self.now.len + 1 }
         ensures chain { of_events (take result.len result.events) result.chain
-            ≡ add (signature (decode_all trace.now.records.now))
+            ≡ add (signature (decode_all trace.now.records.bytes.now))
             (of_events (take self.now.len self.now.events) self.now.chain) e }
     {
         let mut events = self.events;

@@ -18,7 +18,7 @@ ghost use Rattle.closure.specs.Reach.{Closes};
 use frontier::Frontier;
 use model::{Question, Refusal};
 use recording::Records;
-use relations::Trace;
+use relations::{Tables, Trace};
 
 // The bit of event e is set in the bytes of a lent set.
 fn lent_bit(set: &[u8], e: usize) -> bool
@@ -40,7 +40,7 @@ fn spare_clear(set: &[u8], n: usize) -> bool
 // Of each task the latest event that is in the set.
 fn wanted(trace: &Trace, words: &[u64; 64]) -> [u16; 16]
     ensures { LatestEvents (λ f. row_bit 64 words.now (f - 1))
-        (task (decode_all trace.now.records.now)) (length (decode_all trace.now.records.now) + 1) result }
+        (task (decode_all trace.now.records.bytes.now)) (length (decode_all trace.now.records.bytes.now) + 1) result }
 {
     let mut want = [0; 16];
     for e in 1..trace.len() + 1 {
@@ -53,7 +53,7 @@ fn wanted(trace: &Trace, words: &[u64; 64]) -> [u16; 16]
 
 // The frontier of the closure of the set in the words.
 fn reach(trace: &Trace, words: &[u64; 64]) -> Frontier
-    ensures { Closes (decode_all trace.now.records.now) words.now result.front }
+    ensures { Closes (decode_all trace.now.records.bytes.now) words.now result.front }
 {
     let mut frontier = Frontier::empty();
     frontier.advance(trace, &mut wanted(trace, words));
@@ -63,12 +63,12 @@ fn reach(trace: &Trace, words: &[u64; 64]) -> Frontier
 // The set of the frontier.
 fn set_behind(trace: &Trace, frontier: &Frontier) -> [u64; 64]
     ensures { (i : ℕ) → row_bit 64 result i
-        ≡ (ltb i (length (decode_all trace.now.records.now))
-        && leb (suc i) (get_or frontier.now.front (task (decode_all trace.now.records.now) (suc i)) 0)) }
+        ≡ (ltb i (length (decode_all trace.now.records.bytes.now))
+        && leb (suc i) (get_or frontier.now.front (task (decode_all trace.now.records.bytes.now) (suc i)) 0)) }
 {
     let mut words = [0; 64];
     for e in 1..trace.len() + 1 {
-        if frontier.contains(trace.records, e) {
+        if frontier.contains(trace.records.bytes, e) {
             words::put(&mut words, e);
         }
     }
@@ -77,17 +77,17 @@ fn set_behind(trace: &Trace, frontier: &Frontier) -> [u64; 64]
 
 // Closes a lent set: how many events that adds.
 fn close_set(trace: &Trace, set: &mut [u8]) -> u64
-    requires { (length set.old ≡ set_length (length (decode_all trace.now.records.now)))
-        × T (all (λ e. not (lent_bit set.old e)) (from (suc (length (decode_all trace.now.records.now)))
-        (8 * length set.old - length (decode_all trace.now.records.now)))) }
-    ensures answer { result ≡ length (members (decode_all trace.now.records.now)
-        (closure (decode_all trace.now.records.now)
-        (lent_set (decode_all trace.now.records.now) set.old)))
-        - length (members (decode_all trace.now.records.now)
-        (lent_set (decode_all trace.now.records.now) set.old)) }
-    ensures output { set.new ≡ set_bytes (decode_all trace.now.records.now)
-        (closure (decode_all trace.now.records.now)
-        (lent_set (decode_all trace.now.records.now) set.old)) }
+    requires { (length set.old ≡ set_length (length (decode_all trace.now.records.bytes.now)))
+        × T (all (λ e. not (lent_bit set.old e)) (from (suc (length (decode_all trace.now.records.bytes.now)))
+        (8 * length set.old - length (decode_all trace.now.records.bytes.now)))) }
+    ensures answer { result ≡ length (members (decode_all trace.now.records.bytes.now)
+        (closure (decode_all trace.now.records.bytes.now)
+        (lent_set (decode_all trace.now.records.bytes.now) set.old)))
+        - length (members (decode_all trace.now.records.bytes.now)
+        (lent_set (decode_all trace.now.records.bytes.now) set.old)) }
+    ensures output { set.new ≡ set_bytes (decode_all trace.now.records.bytes.now)
+        (closure (decode_all trace.now.records.bytes.now)
+        (lent_set (decode_all trace.now.records.bytes.now) set.old)) }
 {
     let mut words = [0; 64];
     words::pack(set, &mut words);
@@ -112,5 +112,6 @@ pub fn close(recording: &[u8], set: &mut [u8]) -> Result<u64, Refusal>
     if !spare_clear(set, n) {
         return Err(Question::SpareBits.into());
     }
-    Ok(close_set(&Trace::new(&records), set))
+    let mut tables = Tables::blank();
+    Ok(close_set(&Trace::new(&records, &mut tables), set))
 }

@@ -24,7 +24,7 @@ ghost use Rattle.deadlock.specs.Delivered.{delivered, delivered_out, witness_fro
 use frontier::Frontier;
 use model::{Question, Refusal, Verdict};
 use recording::{Op, Records};
-use relations::Trace;
+use relations::{Tables, Trace};
 
 // A chain of outer acquires, by what decides which event may follow: its first and its last one, and the
 // masks of its events' tasks and of their held locks.
@@ -38,9 +38,9 @@ pub struct Chain {
 
 // The lock of the acquire e is in the mask.
 pub fn lock_in_mask(trace: &Trace, mask: u64, e: usize) -> bool
-    requires { (1 ≤ e) × (2 * e ≤ length trace.now.records.now)
-        × T (is_acquire (decode_all trace.now.records.now) e) }
-    ensures { result ≡ has_bit mask (object (decode_all trace.now.records.now) e) }
+    requires { (1 ≤ e) × (2 * e ≤ length trace.now.records.bytes.now)
+        × T (is_acquire (decode_all trace.now.records.bytes.now) e) }
+    ensures { result ≡ has_bit mask (object (decode_all trace.now.records.bytes.now) e) }
 {
     recording::in_mask(mask, trace.object(e) as u64)
 }
@@ -56,9 +56,9 @@ pub fn with_task(records: &[u8], tasks: u64, e: usize) -> u64
 // Event e, at which its task holds the locks of the mask, is an outer acquire: it is one of a lock, which is
 // not among them.
 pub fn is_acquire(trace: &Trace, mask: u64, e: usize) -> bool
-    requires { (1 ≤ e) × (2 * e ≤ length trace.now.records.now)
-        × (mask ≡ held (decode_all trace.now.records.now) e) }
-    ensures { result ≡ is_acquire (decode_all trace.now.records.now) e }
+    requires { (1 ≤ e) × (2 * e ≤ length trace.now.records.bytes.now)
+        × (mask ≡ held (decode_all trace.now.records.bytes.now) e) }
+    ensures { result ≡ is_acquire (decode_all trace.now.records.bytes.now) e }
 {
     match trace.operation(e) {
         Op::Acquire => {
@@ -71,8 +71,8 @@ pub fn is_acquire(trace: &Trace, mask: u64, e: usize) -> bool
 
 // The number e is that of an outer acquire, with which a pattern may begin.
 fn begins(trace: &Trace, e: usize) -> bool
-    ensures { result ≡ (is_event (decode_all trace.now.records.now) e
-        && is_acquire (decode_all trace.now.records.now) e) }
+    ensures { result ≡ (is_event (decode_all trace.now.records.bytes.now) e
+        && is_acquire (decode_all trace.now.records.bytes.now) e) }
 {
     if e == 0 {
         return false;
@@ -86,27 +86,27 @@ fn begins(trace: &Trace, e: usize) -> bool
 impl Chain {
     // The chain of the acquire a.
     pub fn start(trace: &Trace, a: usize) -> Chain
-        requires { (1 ≤ a) × (2 * a ≤ length trace.now.records.now) }
-        ensures { of_events (a ∷ []) result ≡ start (signature (decode_all trace.now.records.now)) a }
+        requires { (1 ≤ a) × (2 * a ≤ length trace.now.records.bytes.now) }
+        ensures { of_events (a ∷ []) result ≡ start (signature (decode_all trace.now.records.bytes.now)) a }
     {
         Chain {
             first: a,
             last: a,
-            tasks: with_task(trace.records, 0, a),
+            tasks: with_task(trace.records.bytes, 0, a),
             guards: trace.held(a),
         }
     }
 
     // The chain and event e more.
     pub fn add(&self, trace: &Trace, e: usize) -> Chain
-        requires { (1 ≤ e) × (2 * e ≤ length trace.now.records.now) }
+        requires { (1 ≤ e) × (2 * e ≤ length trace.now.records.bytes.now) }
         ensures { (p : List ℕ) → of_events (p ++ e ∷ []) result
-            ≡ add (signature (decode_all trace.now.records.now)) (of_events p self.now) e }
+            ≡ add (signature (decode_all trace.now.records.bytes.now)) (of_events p self.now) e }
     {
         Chain {
             first: self.first,
             last: e,
-            tasks: with_task(trace.records, self.tasks, e),
+            tasks: with_task(trace.records.bytes, self.tasks, e),
             guards: self.guards | trace.held(e),
         }
     }
@@ -114,10 +114,10 @@ impl Chain {
     // Event e may follow the chain: it is an acquire, its task is new, and its held locks have the last
     // event's lock and none of the chain's.
     pub fn follows(&self, trace: &Trace, e: usize) -> bool
-        requires { (1 ≤ self.now.last) × (2 * self.now.last ≤ length trace.now.records.now)
-            × T (is_acquire (decode_all trace.now.records.now) self.now.last)
-            × (1 ≤ e) × (2 * e ≤ length trace.now.records.now) }
-        ensures { result ≡ fits (signature (decode_all trace.now.records.now)) (of_events [] self.now) e }
+        requires { (1 ≤ self.now.last) × (2 * self.now.last ≤ length trace.now.records.bytes.now)
+            × T (is_acquire (decode_all trace.now.records.bytes.now) self.now.last)
+            × (1 ≤ e) × (2 * e ≤ length trace.now.records.bytes.now) }
+        ensures { result ≡ fits (signature (decode_all trace.now.records.bytes.now)) (of_events [] self.now) e }
     {
         let held = trace.held(e);
         if !lock_in_mask(trace, held, self.last) {
@@ -135,9 +135,9 @@ impl Chain {
     // The number e may come next in a pattern that begins as the chain does: it is that of an event later
     // than the first one, which may follow.
     fn joins(&self, trace: &Trace, e: usize) -> bool
-        requires { (1 ≤ self.now.last) × (2 * self.now.last ≤ length trace.now.records.now)
-            × T (is_acquire (decode_all trace.now.records.now) self.now.last) }
-        ensures { result ≡ joins (decode_all trace.now.records.now) (of_events [] self.now) e }
+        requires { (1 ≤ self.now.last) × (2 * self.now.last ≤ length trace.now.records.bytes.now)
+            × T (is_acquire (decode_all trace.now.records.bytes.now) self.now.last) }
+        ensures { result ≡ joins (decode_all trace.now.records.bytes.now) (of_events [] self.now) e }
     {
         if e <= self.first {
             return false;
@@ -150,10 +150,10 @@ impl Chain {
 
     // The chain is complete: the last event's lock is held at the first.
     pub fn closes(&self, trace: &Trace) -> bool
-        requires { (1 ≤ self.now.first) × (2 * self.now.first ≤ length trace.now.records.now)
-            × (1 ≤ self.now.last) × (2 * self.now.last ≤ length trace.now.records.now)
-            × T (is_acquire (decode_all trace.now.records.now) self.now.last) }
-        ensures { result ≡ closes (signature (decode_all trace.now.records.now)) (of_events [] self.now) }
+        requires { (1 ≤ self.now.first) × (2 * self.now.first ≤ length trace.now.records.bytes.now)
+            × (1 ≤ self.now.last) × (2 * self.now.last ≤ length trace.now.records.bytes.now)
+            × T (is_acquire (decode_all trace.now.records.bytes.now) self.now.last) }
+        ensures { result ≡ closes (signature (decode_all trace.now.records.bytes.now)) (of_events [] self.now) }
     {
         lock_in_mask(trace, trace.held(self.first), self.last)
     }
@@ -162,11 +162,11 @@ impl Chain {
 // The numbers after the first complete the chain of the acquire a: each joins the chain before it, and the
 // last one closes it.
 fn completes(trace: &Trace, pattern: &[u8], a: usize) -> bool
-    requires { (1 ≤ a) × (2 * a ≤ length trace.now.records.now)
-        × T (is_acquire (decode_all trace.now.records.now) a)
+    requires { (1 ≤ a) × (2 * a ≤ length trace.now.records.bytes.now)
+        × T (is_acquire (decode_all trace.now.records.bytes.now) a)
         × (2 ≤ length pattern.now) }
-    ensures { result ≡ completing (decode_all trace.now.records.now)
-        (start (signature (decode_all trace.now.records.now)) a) (drop 1 (numbers pattern.now)) }
+    ensures { result ≡ completing (decode_all trace.now.records.bytes.now)
+        (start (signature (decode_all trace.now.records.bytes.now)) a) (drop 1 (numbers pattern.now)) }
 {
     let mut chain = Chain::start(trace, a);
     for i in 1..pattern.len() / 2 {
@@ -182,7 +182,7 @@ fn completes(trace: &Trace, pattern: &[u8], a: usize) -> bool
 // Question 10: the lent bytes are a deadlock pattern of the records, smallest event first.
 pub fn lends_pattern(trace: &Trace, pattern: &[u8]) -> bool
     ensures { result ≡ (is_whole pattern.now
-        && is_pattern (decode_all trace.now.records.now) (numbers pattern.now)) }
+        && is_pattern (decode_all trace.now.records.bytes.now) (numbers pattern.now)) }
 {
     if pattern.len() % 2 != 0 {
         return false;
@@ -203,8 +203,8 @@ pub fn lends_pattern(trace: &Trace, pattern: &[u8]) -> bool
 // The frontier of the closure of the predecessors of the pattern's events, to which it advances event by
 // event.
 fn reach(trace: &Trace, pattern: &[u8]) -> Frontier
-    requires { T (all (is_event (decode_all trace.now.records.now)) (numbers pattern.now)) }
-    ensures { Before (decode_all trace.now.records.now) (numbers pattern.now) result.front result.latest }
+    requires { T (all (is_event (decode_all trace.now.records.bytes.now)) (numbers pattern.now)) }
+    ensures { Before (decode_all trace.now.records.bytes.now) (numbers pattern.now) result.front result.latest }
 {
     let mut frontier = Frontier::empty();
     for i in 0..pattern.len() / 2 {
@@ -222,13 +222,13 @@ pub fn avoids<F: Fn(usize) -> u16>(
 ) -> bool
     requires callable { (i : ℕ) → i < count → F.pre event i }
     requires events { (i : ℕ) (e : ℕ) → i < count → F.post event i e
-        → (1 ≤ e) × (2 * e ≤ length trace.now.records.now) }
+        → (1 ≤ e) × (2 * e ≤ length trace.now.records.bytes.now) }
     ensures { (ns : List ℕ) → Gives (F.post event) count ns
         → result ≡ all (λ e. not (leb e
-        (get_or frontier.now.front (task (decode_all trace.now.records.now) e) 0))) ns }
+        (get_or frontier.now.front (task (decode_all trace.now.records.bytes.now) e) 0))) ns }
 {
     for i in 0..count {
-        if frontier.contains(trace.records, event(i) as usize) {
+        if frontier.contains(trace.records.bytes, event(i) as usize) {
             return false;
         }
     }
@@ -238,7 +238,7 @@ pub fn avoids<F: Fn(usize) -> u16>(
 // Decides the lent bytes: question 10, and of a deadlock the frontier of the closure of its events'
 // predecessors.
 pub fn decide(trace: &Trace, pattern: &[u8]) -> Result<Option<Frontier>, Question>
-    ensures { Decided (decode_all trace.now.records.now) pattern.now result }
+    ensures { Decided (decode_all trace.now.records.bytes.now) pattern.now result }
 {
     if !lends_pattern(trace, pattern) {
         return Err(Question::Pattern);
@@ -261,7 +261,8 @@ pub fn verdict(recording: &[u8], pattern: &[u8]) -> Result<Verdict, Refusal>
     ensures { verdict_of result ≡ verdict recording.now pattern.now }
 {
     let records = Records::read(recording)?;
-    match decide(&Trace::new(&records), pattern)? {
+    let mut tables = Tables::blank();
+    match decide(&Trace::new(&records, &mut tables), pattern)? {
         Some(_) => Ok(Verdict::Deadlock),
         None => Ok(Verdict::Not),
     }
@@ -270,11 +271,11 @@ pub fn verdict(recording: &[u8], pattern: &[u8]) -> Result<Verdict, Refusal>
 // How many events are in the set of the frontier.
 fn count_behind(trace: &Trace, frontier: &Frontier) -> u64
     ensures { (result < table_length)
-        × (result ≡ length (behind (decode_all trace.now.records.now) frontier.now.front)) }
+        × (result ≡ length (behind (decode_all trace.now.records.bytes.now) frontier.now.front)) }
 {
     let mut count = 0;
     for e in 1..trace.len() + 1 {
-        if frontier.contains(trace.records, e) {
+        if frontier.contains(trace.records.bytes, e) {
             count += 1;
         }
     }
@@ -283,15 +284,15 @@ fn count_behind(trace: &Trace, frontier: &Frontier) -> u64
 
 // Writes event e at a position of the output, where it is in the set of the frontier: the position after it.
 fn write_one(trace: &Trace, frontier: &Frontier, out: &mut [u8], at: usize, e: usize) -> usize
-    requires { (1 ≤ e) × (2 * e ≤ length trace.now.records.now) × (e < table_length)
-        × (at + length (encode (behind_at (decode_all trace.now.records.now) frontier.now.front e))
+    requires { (1 ≤ e) × (2 * e ≤ length trace.now.records.bytes.now) × (e < table_length)
+        × (at + length (encode (behind_at (decode_all trace.now.records.bytes.now) frontier.now.front e))
         ≤ length out.old) }
     ensures { (result ≡ at
-        + length (encode (behind_at (decode_all trace.now.records.now) frontier.now.front e)))
+        + length (encode (behind_at (decode_all trace.now.records.bytes.now) frontier.now.front e)))
         × (out.new ≡ sets out.old at
-        (encode (behind_at (decode_all trace.now.records.now) frontier.now.front e))) }
+        (encode (behind_at (decode_all trace.now.records.bytes.now) frontier.now.front e))) }
 {
-    if !frontier.contains(trace.records, e) {
+    if !frontier.contains(trace.records.bytes, e) {
         return at;
     }
     recording::put_number(out, at, e as u16);
@@ -300,9 +301,9 @@ fn write_one(trace: &Trace, frontier: &Frontier, out: &mut [u8], at: usize, e: u
 
 // Writes the events in the set of the frontier at the output's front, in recording order and two bytes each.
 fn write_behind(trace: &Trace, frontier: &Frontier, out: &mut [u8])
-    requires { (2 * length (behind (decode_all trace.now.records.now) frontier.now.front) ≤ length out.old) }
+    requires { (2 * length (behind (decode_all trace.now.records.bytes.now) frontier.now.front) ≤ length out.old) }
     ensures { out.new ≡ sets out.old 0
-        (encode (behind (decode_all trace.now.records.now) frontier.now.front)) }
+        (encode (behind (decode_all trace.now.records.bytes.now) frontier.now.front)) }
 {
     let mut at = 0;
     for e in 1..trace.len() + 1 {
@@ -314,10 +315,10 @@ fn write_behind(trace: &Trace, frontier: &Frontier, out: &mut [u8])
 // the output they are written at its front, in so many bytes.
 fn deliver(trace: &Trace, frontier: &Frontier, out: &mut [u8]) -> Result<u64, Question>
     ensures answer { result ≡ delivered
-        (encode (behind (decode_all trace.now.records.now) frontier.now.front))
+        (encode (behind (decode_all trace.now.records.bytes.now) frontier.now.front))
         (length out.old) }
     ensures output { out.new ≡ delivered_out
-        (encode (behind (decode_all trace.now.records.now) frontier.now.front)) out.old }
+        (encode (behind (decode_all trace.now.records.bytes.now) frontier.now.front)) out.old }
 {
     let bytes = 2 * count_behind(trace, frontier);
     if (out.len() as u64) < bytes {
@@ -330,9 +331,9 @@ fn deliver(trace: &Trace, frontier: &Frontier, out: &mut [u8]) -> Result<u64, Qu
 // The witness call from question 10 on: what is decided of the lent bytes, and where that is deadlock the
 // schedule of the frontier.
 fn witness_trace(trace: &Trace, pattern: &[u8], out: &mut [u8]) -> Result<Option<u64>, Refusal>
-    ensures answer { witness_of result ≡ witness_from (decode_all trace.now.records.now) pattern.now
+    ensures answer { witness_of result ≡ witness_from (decode_all trace.now.records.bytes.now) pattern.now
         (length out.old) }
-    ensures output { out.new ≡ witness_out_from (decode_all trace.now.records.now) pattern.now out.old }
+    ensures output { out.new ≡ witness_out_from (decode_all trace.now.records.bytes.now) pattern.now out.old }
 {
     match decide(trace, pattern)? {
         None => Ok(None),
@@ -348,5 +349,6 @@ pub fn witness(recording: &[u8], pattern: &[u8], out: &mut [u8]) -> Result<Optio
     ensures output { out.new ≡ witness_out recording.now pattern.now out.old }
 {
     let records = Records::read(recording)?;
-    witness_trace(&Trace::new(&records), pattern, out)
+    let mut tables = Tables::blank();
+    witness_trace(&Trace::new(&records, &mut tables), pattern, out)
 }

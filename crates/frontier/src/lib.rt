@@ -33,9 +33,9 @@ fn raise(events: &mut [u16], i: usize, e: u16)
 
 // Wants, in the task of event e, its match, or of one that does not count its own number.
 fn want_match(trace: &Trace, want: &mut [u16; 16], e: u16)
-    requires { (1 ≤ e) × (2 * e ≤ length trace.now.records.now) }
-    ensures { want.new ≡ raised want.old (task (decode_all trace.now.records.now) e)
-        (marked (decode_all trace.now.records.now) e) }
+    requires { (1 ≤ e) × (2 * e ≤ length trace.now.records.bytes.now) }
+    ensures { want.new ≡ raised want.old (task (decode_all trace.now.records.bytes.now) e)
+        (marked (decode_all trace.now.records.bytes.now) e) }
 {
     let at = e as usize;
     raise(want, trace.task(at) as usize, trace.matching(at));
@@ -43,8 +43,8 @@ fn want_match(trace: &Trace, want: &mut [u16; 16], e: u16)
 
 // Wants event x of whatever task, unless it is 0.
 fn want_event(trace: &Trace, want: &mut [u16; 16], x: u16)
-    requires { 2 * x ≤ length trace.now.records.now }
-    ensures { want.new ≡ wanted (decode_all trace.now.records.now) want.old x }
+    requires { 2 * x ≤ length trace.now.records.bytes.now }
+    ensures { want.new ≡ wanted (decode_all trace.now.records.bytes.now) want.old x }
 {
     if x == 0 {
         return;
@@ -55,11 +55,11 @@ fn want_event(trace: &Trace, want: &mut [u16; 16], x: u16)
 // Visits the outer acquire f: notes it where it is later than the latest one of its lock that was visited
 // before, and wants the match of the earlier of the two, where there are two.
 fn visit_acquire(trace: &Trace, want: &mut [u16; 16], latest: &mut [u16; 64], f: u16)
-    requires { (1 ≤ f) × (2 * f ≤ length trace.now.records.now)
-        × (object (decode_all trace.now.records.now) f < locks) }
-    ensures wanted { want.new ≡ wanted_earlier (decode_all trace.now.records.now)
-        want.old (get_or latest.old (object (decode_all trace.now.records.now) f) 0) f }
-    ensures latest { latest.new ≡ raised latest.old (object (decode_all trace.now.records.now) f) f }
+    requires { (1 ≤ f) × (2 * f ≤ length trace.now.records.bytes.now)
+        × (object (decode_all trace.now.records.bytes.now) f < locks) }
+    ensures wanted { want.new ≡ wanted_earlier (decode_all trace.now.records.bytes.now)
+        want.old (get_or latest.old (object (decode_all trace.now.records.bytes.now) f) 0) f }
+    ensures latest { latest.new ≡ raised latest.old (object (decode_all trace.now.records.bytes.now) f) f }
 {
     let l = trace.object(f as usize) as usize;
     let top = latest[l];
@@ -73,9 +73,9 @@ fn visit_acquire(trace: &Trace, want: &mut [u16; 16], latest: &mut [u16; 64], f:
 // Visits event f, which wants what it awaits, or is visited as an outer acquire. A start or an inner acquire,
 // which is marked by its own number, changes nothing.
 fn visit(trace: &Trace, want: &mut [u16; 16], latest: &mut [u16; 64], f: u16)
-    requires { (1 ≤ f) × (2 * f ≤ length trace.now.records.now) }
-    ensures wanted { want.new ≡ wanted_with (decode_all trace.now.records.now) want.old latest.old f }
-    ensures latest { latest.new ≡ latest_with (decode_all trace.now.records.now) latest.old f }
+    requires { (1 ≤ f) × (2 * f ≤ length trace.now.records.bytes.now) }
+    ensures wanted { want.new ≡ wanted_with (decode_all trace.now.records.bytes.now) want.old latest.old f }
+    ensures latest { latest.new ≡ latest_with (decode_all trace.now.records.bytes.now) latest.old f }
 {
     match trace.operation(f as usize) {
         Op::Acquire => {
@@ -91,9 +91,9 @@ fn visit(trace: &Trace, want: &mut [u16; 16], latest: &mut [u16; 64], f: u16)
 // the set at its start, which is then wanted.
 fn begin(trace: &Trace, want: &mut [u16; 16], t: usize, old: u16) -> u16
     requires { t < tasks }
-    ensures { (result ≡ cond (eqb old 0) (start_in (decode_all trace.now.records.now) t) old)
-        × (want.new ≡ cond (eqb old 0) (wanted (decode_all trace.now.records.now) want.old
-        (start_in (decode_all trace.now.records.now) t)) want.old) }
+    ensures { (result ≡ cond (eqb old 0) (start_in (decode_all trace.now.records.bytes.now) t) old)
+        × (want.new ≡ cond (eqb old 0) (wanted (decode_all trace.now.records.bytes.now) want.old
+        (start_in (decode_all trace.now.records.bytes.now) t)) want.old) }
 {
     if old != 0 {
         return old;
@@ -127,9 +127,9 @@ impl Frontier {
     // A turn of task t: the frontier moves to its wanted event, and each event of the task that it passes is
     // visited.
     fn turn(&mut self, trace: &Trace, want: &mut [u16; 16], t: usize)
-        requires { Settled (decode_all trace.now.records.now) self.old.front want.old self.old.latest
+        requires { Settled (decode_all trace.now.records.bytes.now) self.old.front want.old self.old.latest
             × (t < tasks) × (get_or self.old.front t 0 < get_or want.old t 0) }
-        ensures { Turned (decode_all trace.now.records.now) self.old.front want.old t
+        ensures { Turned (decode_all trace.now.records.bytes.now) self.old.front want.old t
             self.new.front want.new self.new.latest }
     {
         let old = self.front[t];
@@ -145,8 +145,8 @@ impl Frontier {
     // Advances the frontier to that of the smallest closed set with the wanted events, task by task,
     // until none has more to reach. A closed set is extended the same way: with further events wanted.
     pub fn advance(&mut self, trace: &Trace, want: &mut [u16; 16])
-        requires { Settled (decode_all trace.now.records.now) self.old.front want.old self.old.latest }
-        ensures { Advanced (decode_all trace.now.records.now) want.old self.new.front self.new.latest
+        requires { Settled (decode_all trace.now.records.bytes.now) self.old.front want.old self.old.latest }
+        ensures { Advanced (decode_all trace.now.records.bytes.now) want.old self.new.front self.new.latest
             × (want.new ≡ self.new.front) }
     {
         while let Some(t) = unreached(&self.front, want) {
@@ -156,11 +156,11 @@ impl Frontier {
 
     // Extends the closed set by the predecessor of event e.
     pub fn extend(&mut self, trace: &Trace, e: usize)
-        requires { Settled (decode_all trace.now.records.now) self.old.front self.old.front self.old.latest
-            × (1 ≤ e) × (2 * e ≤ length trace.now.records.now) }
-        ensures { Advanced (decode_all trace.now.records.now)
-            (wanted (decode_all trace.now.records.now) self.old.front
-            (predecessor (decode_all trace.now.records.now) e)) self.new.front self.new.latest }
+        requires { Settled (decode_all trace.now.records.bytes.now) self.old.front self.old.front self.old.latest
+            × (1 ≤ e) × (2 * e ≤ length trace.now.records.bytes.now) }
+        ensures { Advanced (decode_all trace.now.records.bytes.now)
+            (wanted (decode_all trace.now.records.bytes.now) self.old.front
+            (predecessor (decode_all trace.now.records.bytes.now) e)) self.new.front self.new.latest }
     {
         let mut want = self.front;
         want_event(trace, &mut want, trace.predecessor(e));

@@ -17,13 +17,13 @@ use entries::{Found, Full};
 use model::{Entries, Question, Refusal};
 use pruning::Links;
 use recording::Records;
-use relations::Trace;
+use relations::{Tables, Trace};
 use size::Size;
 
 // Lists the deadlocks of at most this size into the output, where all their entries fit it; else it writes
 // nothing. Only a listing of more than 65,536 bytes is searched for twice.
 fn deliver(links: &Links, size: Size, out: &mut [u8]) -> Result<Found, Full>
-    ensures { Delivered (deadlocks (decode_all links.now.trace.now.records.now) size.events) out.old
+    ensures { Delivered (deadlocks (decode_all links.now.trace.now.records.bytes.now) size.events) out.old
         out.new result }
 {
     let mut buffer = [0u8; 65536];
@@ -56,7 +56,8 @@ pub fn list(recording: &[u8], largest: u64, out: &mut [u8]) -> Result<Entries, R
 {
     let records = Records::read(recording)?;
     let size = size_of(largest)?;
-    let trace = Trace::new(&records);
+    let mut tables = Tables::blank();
+    let trace = Trace::new(&records, &mut tables);
     match deliver(&Links::new(&trace), size, out) {
         Ok(found) => Ok(found.into()),
         Err(Full) => Err(Question::OutputLength.into()),

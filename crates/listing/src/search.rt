@@ -25,7 +25,7 @@ struct Search<'a> {
     first: usize,
     size: Size,
     back: [u64; 16],
-    ghost returning: { Returning (decode_all links.now.trace.now.records.now) first size.events back },
+    ghost returning: { Returning (decode_all links.now.trace.now.records.bytes.now) first size.events back },
 }
 
 // Takes what begins with a path that is a deadlock so far: it alone where it is complete, and otherwise what
@@ -39,9 +39,9 @@ fn descend(
     out: &mut [u8],
     found: Found,
 ) -> Result<Found, Full>
-    requires { Open (decode_all search.now.links.now.trace.now.records.now) search.now.first
+    requires { Open (decode_all search.now.links.now.trace.now.records.bytes.now) search.now.first
         search.now.size.events path.now k frontier.now }
-    ensures { Adds (completions (decode_all search.now.links.now.trace.now.records.now) k (chain_of path.now))
+    ensures { Adds (completions (decode_all search.now.links.now.trace.now.records.bytes.now) k (chain_of path.now))
         out.old out.new found result }
 {
     if path.chain.closes(search.links.trace) {
@@ -64,10 +64,10 @@ fn extend(
     out: &mut [u8],
     found: Found,
 ) -> Result<Found, Full>
-    requires { Open (decode_all search.now.links.now.trace.now.records.now) search.now.first
+    requires { Open (decode_all search.now.links.now.trace.now.records.bytes.now) search.now.first
         search.now.size.events path.now left frontier.now
         × (1 ≤ left) }
-    ensures { Adds (extensions (decode_all search.now.links.now.trace.now.records.now) left
+    ensures { Adds (extensions (decode_all search.now.links.now.trace.now.records.bytes.now) left
         (chain_of path.now)) out.old out.new found result }
 {
     let trace = search.links.trace;
@@ -77,7 +77,7 @@ fn extend(
     let mut at = chain.first;
     while let Some(e) = search.links.following(&chain, at) {
         let met = grown.attempt(trace, &search.back, path, left - 1, frontier, e);
-        chain = chain::exclude(trace.records, &chain, met, e);
+        chain = chain::exclude(trace.records.bytes, &chain, met, e);
         at = e;
         match met {
             Trial::Success => {
@@ -99,11 +99,11 @@ fn extend(
 // Extends the path of the first event alone.
 fn begin(search: &Search, out: &mut [u8], found: Found) -> Result<Found, Full>
     requires { (1 ≤ search.now.first)
-        × (2 * search.now.first ≤ length search.now.links.now.trace.now.records.now)
-        × T (is_acquire (decode_all search.now.links.now.trace.now.records.now) search.now.first) }
+        × (2 * search.now.first ≤ length search.now.links.now.trace.now.records.bytes.now)
+        × T (is_acquire (decode_all search.now.links.now.trace.now.records.bytes.now) search.now.first) }
     ensures { Adds
-        (extensions (decode_all search.now.links.now.trace.now.records.now) (search.now.size.events - 1)
-        (start (signature (decode_all search.now.links.now.trace.now.records.now)) search.now.first))
+        (extensions (decode_all search.now.links.now.trace.now.records.bytes.now) (search.now.size.events - 1)
+        (start (signature (decode_all search.now.links.now.trace.now.records.bytes.now)) search.now.first))
         out.old out.new found result }
 {
     let trace = search.links.trace;
@@ -123,10 +123,10 @@ fn search_first(
     out: &mut [u8],
     found: Found,
 ) -> Result<Found, Full>
-    requires { Leading (decode_all links.now.trace.now.records.now) 0 tasks 0 lead.now
-        × (1 ≤ a) × (2 * a ≤ length links.now.trace.now.records.now)
-        × T (is_acquire (decode_all links.now.trace.now.records.now) a) }
-    ensures { Adds (beginning (decode_all links.now.trace.now.records.now) (size.events - 1) a)
+    requires { Leading (decode_all links.now.trace.now.records.bytes.now) 0 tasks 0 lead.now
+        × (1 ≤ a) × (2 * a ≤ length links.now.trace.now.records.bytes.now)
+        × T (is_acquire (decode_all links.now.trace.now.records.bytes.now) a) }
+    ensures { Adds (beginning (decode_all links.now.trace.now.records.bytes.now) (size.events - 1) a)
         out.old out.new found result }
 {
     let trace = links.trace;
@@ -151,7 +151,7 @@ fn search_first(
 // Takes the deadlocks of at most this size, in the listing's order, until their entries exceed the room; they
 // are written where they fit the output.
 pub fn search_all(links: &Links, size: Size, out: &mut [u8], room: usize) -> Result<Found, Full>
-    ensures { Taken room (deadlocks (decode_all links.now.trace.now.records.now) size.events)
+    ensures { Taken room (deadlocks (decode_all links.now.trace.now.records.bytes.now) size.events)
         out.old out.new result }
 {
     let lead = links.leads(0, None, 0);

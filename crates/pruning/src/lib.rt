@@ -26,14 +26,14 @@ pub struct Links<'a> {
     pub trace: &'a Trace<'a>,
     next: [u16; 4096],
     blocks: [u64; 64],
-    ghost linked: { Linked (decode_all trace.now.records.now) next },
-    ghost marked: { Marked (decode_all trace.now.records.now) blocks },
+    ghost linked: { Linked (decode_all trace.now.records.bytes.now) next },
+    ghost marked: { Marked (decode_all trace.now.records.bytes.now) blocks },
 }
 
 // Event e where it is a nested acquire, and otherwise `later`.
 fn nested_or(trace: &Trace, e: usize, later: u16) -> u16
-    requires { (1 ≤ e) × (2 * e ≤ length trace.now.records.now) }
-    ensures { result ≡ cond (is_nested (decode_all trace.now.records.now) e) e later }
+    requires { (1 ≤ e) × (2 * e ≤ length trace.now.records.bytes.now) }
+    ensures { result ≡ cond (is_nested (decode_all trace.now.records.bytes.now) e) e later }
 {
     let held = trace.held(e);
     if held == 0 {
@@ -47,7 +47,7 @@ fn nested_or(trace: &Trace, e: usize, later: u16) -> u16
 
 // Links each event, and number 0, to the first nested acquire after it, from the last event down.
 fn link_nested(trace: &Trace) -> [u16; 4096]
-    ensures { Linked (decode_all trace.now.records.now) result }
+    ensures { Linked (decode_all trace.now.records.bytes.now) result }
 {
     let mut next = [0; 4096];
     let mut top = 0;
@@ -72,8 +72,8 @@ fn linked(next: &[u16; 4096], e: usize) -> Option<usize>
 
 // Marks for each 64 events in turn the locks that are held at their acquires.
 fn mark_blocks(trace: &Trace, next: &[u16; 4096]) -> [u64; 64]
-    requires { Linked (decode_all trace.now.records.now) next.now }
-    ensures { Marked (decode_all trace.now.records.now) result }
+    requires { Linked (decode_all trace.now.records.bytes.now) next.now }
+    ensures { Marked (decode_all trace.now.records.bytes.now) result }
 {
     let mut blocks = [0; 64];
     let mut at = 0;
@@ -86,10 +86,10 @@ fn mark_blocks(trace: &Trace, next: &[u16; 4096]) -> [u64; 64]
 
 // Notes the held locks of the acquire e with its lock, unless its task is t or it holds a guard.
 fn note_lead(trace: &Trace, a: usize, t: Option<u8>, guards: u64, lead: &mut [u64; 64], e: usize)
-    requires { (1 ≤ e) × (2 * e ≤ length trace.now.records.now)
-        × T (is_acquire (decode_all trace.now.records.now) e)
-        × Led (decode_all trace.now.records.now) a e (number_of t) guards lead.old }
-    ensures { Led (decode_all trace.now.records.now) a (e + 1) (number_of t) guards lead.new }
+    requires { (1 ≤ e) × (2 * e ≤ length trace.now.records.bytes.now)
+        × T (is_acquire (decode_all trace.now.records.bytes.now) e)
+        × Led (decode_all trace.now.records.bytes.now) a e (number_of t) guards lead.old }
+    ensures { Led (decode_all trace.now.records.bytes.now) a (e + 1) (number_of t) guards lead.new }
 {
     if t == Some(trace.task(e)) {
         return;
@@ -118,9 +118,9 @@ impl<'a> Links<'a> {
 
     // The first nested acquire after event e, or number 0, if any.
     pub fn link(&self, e: usize) -> Option<usize>
-        requires { 2 * e ≤ length self.now.trace.now.records.now }
-        ensures { Earliest (is_nested (decode_all self.now.trace.now.records.now))
-            (length (decode_all self.now.trace.now.records.now)) e result }
+        requires { 2 * e ≤ length self.now.trace.now.records.bytes.now }
+        ensures { Earliest (is_nested (decode_all self.now.trace.now.records.bytes.now))
+            (length (decode_all self.now.trace.now.records.bytes.now)) e result }
     {
         linked(&self.next, e)
     }
@@ -128,9 +128,9 @@ impl<'a> Links<'a> {
     // The first nested acquire after e in a block where some acquire holds lock l, if any: other blocks are
     // passed over.
     fn hop(&self, l: u64, e: usize) -> Option<usize>
-        requires { (l < locks) × (2 * e ≤ length self.now.trace.now.records.now) }
-        ensures { Earliest (is_near (decode_all self.now.trace.now.records.now) self.now.blocks l)
-            (length (decode_all self.now.trace.now.records.now)) e result }
+        requires { (l < locks) × (2 * e ≤ length self.now.trace.now.records.bytes.now) }
+        ensures { Earliest (is_near (decode_all self.now.trace.now.records.bytes.now) self.now.blocks l)
+            (length (decode_all self.now.trace.now.records.bytes.now)) e result }
     {
         let mut at = e;
         while let Some(x) = self.link(at) {
@@ -147,12 +147,12 @@ impl<'a> Links<'a> {
 
     // The first event after e that may follow a chain, if any.
     pub fn following(&self, chain: &Chain, e: usize) -> Option<usize>
-        requires { (1 ≤ chain.now.last) × (2 * chain.now.last ≤ length self.now.trace.now.records.now)
-            × (2 * e ≤ length self.now.trace.now.records.now)
-            × T (is_acquire (decode_all self.now.trace.now.records.now) chain.now.last) }
-        ensures { Earliest (fits (signature (decode_all self.now.trace.now.records.now))
+        requires { (1 ≤ chain.now.last) × (2 * chain.now.last ≤ length self.now.trace.now.records.bytes.now)
+            × (2 * e ≤ length self.now.trace.now.records.bytes.now)
+            × T (is_acquire (decode_all self.now.trace.now.records.bytes.now) chain.now.last) }
+        ensures { Earliest (fits (signature (decode_all self.now.trace.now.records.bytes.now))
             (of_events [] chain.now))
-            (length (decode_all self.now.trace.now.records.now)) e result }
+            (length (decode_all self.now.trace.now.records.bytes.now)) e result }
     {
         let l = self.trace.object(chain.last) as u64;
         let mut at = e;
@@ -168,8 +168,8 @@ impl<'a> Links<'a> {
     // For each lock, the locks that are held at its acquires after event a, by other tasks than t, if any,
     // and with none of the guards.
     pub fn leads(&self, a: usize, t: Option<u8>, guards: u64) -> [u64; 64]
-        requires { 2 * a ≤ length self.now.trace.now.records.now }
-        ensures { Leading (decode_all self.now.trace.now.records.now) a (number_of t) guards result }
+        requires { 2 * a ≤ length self.now.trace.now.records.bytes.now }
+        ensures { Leading (decode_all self.now.trace.now.records.bytes.now) a (number_of t) guards result }
     {
         let mut lead = [0; 64];
         let mut at = a;
@@ -221,12 +221,12 @@ fn fill_back(lead: &[u64; 64], held: u64, count: usize) -> [u64; 16]
 // The locks that lead back to the acquire a after each number of events more, unless no chain of at most
 // `count` events that begins with it may return to it.
 pub fn ways_back(trace: &Trace, lead: &[u64; 64], a: usize, count: usize) -> Option<[u64; 16]>
-    requires { (1 ≤ a) × (2 * a ≤ length trace.now.records.now)
-        × T (is_acquire (decode_all trace.now.records.now) a)
-        × Leading (decode_all trace.now.records.now) a (task (decode_all trace.now.records.now) a)
-        (held (decode_all trace.now.records.now) a) lead.now
+    requires { (1 ≤ a) × (2 * a ≤ length trace.now.records.bytes.now)
+        × T (is_acquire (decode_all trace.now.records.bytes.now) a)
+        × Leading (decode_all trace.now.records.bytes.now) a (task (decode_all trace.now.records.bytes.now) a)
+        (held (decode_all trace.now.records.bytes.now) a) lead.now
         × (1 ≤ count) × (count ≤ largest_pattern) }
-    ensures { WaysBack (decode_all trace.now.records.now) a count result }
+    ensures { WaysBack (decode_all trace.now.records.bytes.now) a count result }
 {
     let back = fill_back(lead, trace.held(a), count);
     if !deadlock::lock_in_mask(trace, back[count - 1], a) {

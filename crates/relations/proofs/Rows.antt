@@ -99,14 +99,14 @@ module _ {σ : Trace} {e : ℕ} {rows : List Row} (z : Noted σ e rows) (l : e <
 pub noted_end : {σ : Trace} {e : ℕ} {rows : List Row} {walk : Walk} → Noted σ e rows → Walked σ e walk
     → e ≡ suc (length σ) → Tabled σ (record { rows = rows; starts = walk.latest.starts })
 noted_end {σ} {walk = walk} z w last = record {
-  held_at = λ f i j. (z.at f i (omega (arith, last))).held_is;
-  predecessor_at = λ f i j. (z.at f i (omega (arith, last))).predecessor_is;
+  held_at = λ f i. (z.at f i.0 (omega (arith, i, last))).held_is;
+  predecessor_at = λ f i. (z.at f i.0 (omega (arith, i, last))).predecessor_is;
   start_at = λ t i.
       let start = w.latest.start in
       let long = w.latest.starts_long in
       rw last at (latest-start_of σ _ walk.latest.starts start t (omega (arith, long)));
-  awaited_at = λ f i j. (z.at f i (omega (arith, last))).awaited_is;
-  matching_at = λ f i j. (rw last at (z.at f i (omega (arith, last))).matching_is) ∙ marked_end σ f;
+  awaited_at = λ f i. (z.at f i.0 (omega (arith, i, last))).awaited_is;
+  matching_at = λ f i. (rw last at (z.at f i.0 (omega (arith, i, last))).matching_is) ∙ marked_end σ f;
 }
 
 -- The relations of an event, off what the tables have of it.

@@ -23,11 +23,11 @@ row rows e = get_or rows e blank
 
 -- Each row has the relations of its event, its match with a mark, and for each task there is its start.
 pub record Tabled (σ : Trace) (tables : Tables) : Type 0 where
-  pub held_at : (e : ℕ) → 1 ≤ e → e ≤ length σ → (row tables.rows e).held ≡ held σ e
-  pub predecessor_at : (e : ℕ) → 1 ≤ e → e ≤ length σ → (row tables.rows e).predecessor ≡ predecessor σ e
+  pub held_at : (e : ℕ) → (1 ≤ e) × (e ≤ length σ) → (row tables.rows e).held ≡ held σ e
+  pub predecessor_at : (e : ℕ) → (1 ≤ e) × (e ≤ length σ) → (row tables.rows e).predecessor ≡ predecessor σ e
   pub start_at : (t : ℕ) → t < tasks → get_or tables.starts t 0 ≡ start_in σ t
-  pub awaited_at : (e : ℕ) → 1 ≤ e → e ≤ length σ → (row tables.rows e).awaited ≡ awaited σ e
-  pub matching_at : (e : ℕ) → 1 ≤ e → e ≤ length σ → (row tables.rows e).matching ≡ marked σ e
+  pub awaited_at : (e : ℕ) → (1 ≤ e) × (e ≤ length σ) → (row tables.rows e).awaited ≡ awaited σ e
+  pub matching_at : (e : ℕ) → (1 ≤ e) × (e ≤ length σ) → (row tables.rows e).matching ≡ marked σ e
 
 -- The row is that of event f, but that its match is as far as the events before e show it.
 pub record IsRow (σ : Trace) (e f : ℕ) (r : Row) : Type 0 where

@@ -22,27 +22,17 @@ use order::Latest;
 use recording::{Op, Records};
 use sections::{Kind, OpenSections};
 
-// An accepted recording: its records, and tables of what its events' relations are.
-#[derive(Drop)]
+// An accepted recording: its records, and the tables of its events' relations, which lie with the caller.
+#[derive(Clone, Copy)]
 pub struct Trace<'a> {
-    pub records: &'a [u8],
-    tables: Tables,
-    ghost short: { length records.now ≤ records_length },
-    ghost accepted: { (check_events (decode_all records.now)).refusal ≡ 0 },
-    ghost held_at: { (e : ℕ) → 1 ≤ e → 2 * e ≤ length records.now
-        → (row tables.rows e).held ≡ held (decode_all records.now) e },
-    ghost predecessor_at: { (e : ℕ) → 1 ≤ e → 2 * e ≤ length records.now
-        → (row tables.rows e).predecessor ≡ predecessor (decode_all records.now) e },
-    ghost start_at: { (t : ℕ) → t < tasks → get_or tables.starts t 0 ≡ start_in (decode_all records.now) t },
-    ghost awaited_at: { (e : ℕ) → 1 ≤ e → 2 * e ≤ length records.now
-        → (row tables.rows e).awaited ≡ awaited (decode_all records.now) e },
-    ghost marked_at: { (e : ℕ) → 1 ≤ e → 2 * e ≤ length records.now
-        → (row tables.rows e).matching ≡ marked (decode_all records.now) e },
+    pub records: Records<'a>,
+    tables: &'a Tables,
+    ghost tabled: { Tabled (decode_all records.bytes.now) tables.now },
 }
 
 // For each event its row, and for each task its start.
 #[derive(Drop)]
-struct Tables {
+pub struct Tables {
     rows: [Row; 4096],
     starts: [u16; 16],
 }
@@ -101,6 +91,19 @@ impl Walk {
 }
 
 impl Tables {
+    // Room for the tables of a recording, nothing noted yet.
+    pub fn blank() -> Tables {
+        Tables {
+            rows: [Row {
+                held: 0,
+                predecessor: 0,
+                awaited: 0,
+                matching: 0,
+            }; 4096],
+            starts: [0; 16],
+        }
+    }
+
     // Fills the tables of accepted records: one pass, each event noted in turn.
     fn fill(&mut self, records: &Records)
         ensures { Tabled (decode_all records.now.bytes.now) self.new }
@@ -127,71 +130,61 @@ fn writer_of(operation: Op, awaited: u16) -> u64
 }
 
 impl<'a> Trace<'a> {
-    // An accepted recording, with its tables.
-    pub fn new(records: &Records<'a>) -> Trace<'a>
-        ensures { result.records.now ≡ records.now.bytes.now }
+    // An accepted recording, whose tables are filled.
+    pub fn new(records: &Records<'a>, tables: &'a mut Tables) -> Trace<'a>
+        ensures { result.records ≡ records.now }
     {
-        let blank = Row {
-            held: 0,
-            predecessor: 0,
-            awaited: 0,
-            matching: 0,
-        };
-        let mut tables = Tables {
-            rows: [blank; 4096],
-            starts: [0; 16],
-        };
         tables.fill(records);
         Trace {
-            records: records.bytes,
-            tables,
+            records: *records,
+            tables: &*tables,
         }
     }
 
     // How many events there are.
     pub fn len(&self) -> usize
-        ensures { (result < table_length) × (result ≡ length (decode_all self.now.records.now))
-            × (2 * result ≤ length self.now.records.now) }
+        ensures { (result < table_length) × (result ≡ length (decode_all self.now.records.bytes.now))
+            × (2 * result ≤ length self.now.records.bytes.now) }
     {
-        self.records.len() / 2
+        self.records.len()
     }
 
     // The operation of event e.
     pub fn operation(&self, e: usize) -> Op
-        requires { (1 ≤ e) × (2 * e ≤ length self.now.records.now) }
-        ensures { code result ≡ (at (decode_all self.now.records.now) e).op }
+        requires { (1 ≤ e) × (2 * e ≤ length self.now.records.bytes.now) }
+        ensures { code result ≡ (at (decode_all self.now.records.bytes.now) e).op }
     {
-        recording::operation(self.records, e)
+        recording::operation(self.records.bytes, e)
     }
 
     // The task of event e.
     pub fn task(&self, e: usize) -> u8
-        requires { (1 ≤ e) × (2 * e ≤ length self.now.records.now) }
-        ensures { (result < tasks) × (result ≡ task (decode_all self.now.records.now) e) }
+        requires { (1 ≤ e) × (2 * e ≤ length self.now.records.bytes.now) }
+        ensures { (result < tasks) × (result ≡ task (decode_all self.now.records.bytes.now) e) }
     {
-        recording::task(self.records, e)
+        recording::task(self.records.bytes, e)
     }
 
     // The lock or variable of event e, or what stands for the task that it starts or joins.
     pub fn object(&self, e: usize) -> u16
-        requires { (1 ≤ e) × (2 * e ≤ length self.now.records.now) }
-        ensures { (result < variables) × (result ≡ object (decode_all self.now.records.now) e) }
+        requires { (1 ≤ e) × (2 * e ≤ length self.now.records.bytes.now) }
+        ensures { (result < variables) × (result ≡ object (decode_all self.now.records.bytes.now) e) }
     {
-        recording::object(self.records, e)
+        recording::object(self.records.bytes, e)
     }
 
     // The held locks of event e, as a mask.
     pub fn held(&self, e: usize) -> u64
-        requires { (1 ≤ e) × (2 * e ≤ length self.now.records.now) }
-        ensures { result ≡ held (decode_all self.now.records.now) e }
+        requires { (1 ≤ e) × (2 * e ≤ length self.now.records.bytes.now) }
+        ensures { result ≡ held (decode_all self.now.records.bytes.now) e }
     {
         self.tables.rows[e].held
     }
 
     // The predecessor of event e, or 0.
     pub fn predecessor(&self, e: usize) -> u16
-        requires { (1 ≤ e) × (2 * e ≤ length self.now.records.now) }
-        ensures { result ≡ predecessor (decode_all self.now.records.now) e }
+        requires { (1 ≤ e) × (2 * e ≤ length self.now.records.bytes.now) }
+        ensures { result ≡ predecessor (decode_all self.now.records.bytes.now) e }
     {
         self.tables.rows[e].predecessor
     }
@@ -199,31 +192,31 @@ impl<'a> Trace<'a> {
     // The start of task t, or 0.
     pub fn start(&self, t: usize) -> u16
         requires { t < tasks }
-        ensures { result ≡ start_in (decode_all self.now.records.now) t }
+        ensures { result ≡ start_in (decode_all self.now.records.bytes.now) t }
     {
         self.tables.starts[t]
     }
 
     // What event e awaits besides its predecessor: a read its writer, a join what it waits for, or 0.
     pub fn awaited(&self, e: usize) -> u16
-        requires { (1 ≤ e) × (2 * e ≤ length self.now.records.now) }
-        ensures { result ≡ awaited (decode_all self.now.records.now) e }
+        requires { (1 ≤ e) × (2 * e ≤ length self.now.records.bytes.now) }
+        ensures { result ≡ awaited (decode_all self.now.records.bytes.now) e }
     {
         self.tables.rows[e].awaited
     }
 
     // The match of event e, or 0; of an inner event, a start or a join its own number.
     pub fn matching(&self, e: usize) -> u16
-        requires { (1 ≤ e) × (2 * e ≤ length self.now.records.now) }
-        ensures { result ≡ marked (decode_all self.now.records.now) e }
+        requires { (1 ≤ e) × (2 * e ≤ length self.now.records.bytes.now) }
+        ensures { result ≡ marked (decode_all self.now.records.bytes.now) e }
     {
         self.tables.rows[e].matching
     }
 
     // The relations of event e.
     fn related(&self, e: usize) -> Related
-        requires { (1 ≤ e) × (2 * e ≤ length self.now.records.now) }
-        ensures { relations_of (Ok result) ≡ event_relations (decode_all self.now.records.now) e }
+        requires { (1 ≤ e) × (2 * e ≤ length self.now.records.bytes.now) }
+        ensures { relations_of (Ok result) ≡ event_relations (decode_all self.now.records.bytes.now) e }
     {
         let held = self.held(e);
         Related {
@@ -245,5 +238,6 @@ pub fn relations(recording: &[u8], event: u64) -> Result<Related, Refusal>
     if event == 0 || n < event {
         return Err(Question::EventNumber.into());
     }
-    Ok(Trace::new(&records).related(event as usize))
+    let mut tables = Tables::blank();
+    Ok(Trace::new(&records, &mut tables).related(event as usize))
 }

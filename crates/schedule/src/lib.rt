@@ -16,7 +16,7 @@ ghost use Rattle.schedule.specs.Next.{is_listed, is_ready, is_next, is_unlocked}
 
 use model::{Question, Refusal};
 use recording::{Op, Records};
-use relations::Trace;
+use relations::{Tables, Trace};
 
 // What is listed: of each task the latest listed event, of each lock the latest listed outer acquire, and of
 // each variable the write that was listed last, or 0.
@@ -30,16 +30,16 @@ struct Progress {
 impl Progress {
     // Whether event e is listed: not 0, and no later than the latest listed event of its task.
     fn is_listed(&self, trace: &Trace, e: u16) -> bool
-        requires { 2 * e ≤ length trace.now.records.now }
-        ensures { result ≡ is_listed (decode_all trace.now.records.now) self.now.last e }
+        requires { 2 * e ≤ length trace.now.records.bytes.now }
+        ensures { result ≡ is_listed (decode_all trace.now.records.bytes.now) self.now.last e }
     {
         e != 0 && e <= self.last[trace.task(e as usize) as usize]
     }
 
     // Whether what an event awaits is there: it is 0, or listed.
     fn is_ready(&self, trace: &Trace, x: u16) -> bool
-        requires { 2 * x ≤ length trace.now.records.now }
-        ensures { result ≡ is_ready (decode_all trace.now.records.now) self.now.last x }
+        requires { 2 * x ≤ length trace.now.records.bytes.now }
+        ensures { result ≡ is_ready (decode_all trace.now.records.bytes.now) self.now.last x }
     {
         x == 0 || self.is_listed(trace, x)
     }
@@ -47,8 +47,8 @@ impl Progress {
     // Whether event e comes next in its task: its predecessor is the latest listed event there, or where none
     // is, the task's start, which is listed.
     fn is_next(&self, trace: &Trace, e: u16) -> bool
-        requires { (1 ≤ e) × (2 * e ≤ length trace.now.records.now) }
-        ensures { result ≡ is_next (decode_all trace.now.records.now) self.now.last e }
+        requires { (1 ≤ e) × (2 * e ≤ length trace.now.records.bytes.now) }
+        ensures { result ≡ is_next (decode_all trace.now.records.bytes.now) self.now.last e }
     {
         let before = trace.predecessor(e as usize);
         let own = self.last[trace.task(e as usize) as usize];
@@ -64,11 +64,11 @@ impl Progress {
     // Whether the outer acquire e finds its lock free and keeps lock order: no outer acquire of it is listed,
     // or the latest one is earlier and its match is listed.
     fn is_unlocked(&self, trace: &Trace, e: u16) -> bool
-        requires { (1 ≤ e) × (2 * e ≤ length trace.now.records.now)
-            × (object (decode_all trace.now.records.now) e < locks)
-            × (get_or self.now.acquires (object (decode_all trace.now.records.now) e) 0
-            ≤ length (decode_all trace.now.records.now)) }
-        ensures { result ≡ is_unlocked (decode_all trace.now.records.now) self.now.last
+        requires { (1 ≤ e) × (2 * e ≤ length trace.now.records.bytes.now)
+            × (object (decode_all trace.now.records.bytes.now) e < locks)
+            × (get_or self.now.acquires (object (decode_all trace.now.records.bytes.now) e) 0
+            ≤ length (decode_all trace.now.records.bytes.now)) }
+        ensures { result ≡ is_unlocked (decode_all trace.now.records.bytes.now) self.now.last
             self.now.acquires e }
     {
         let latest = self.acquires[trace.object(e as usize) as usize];
@@ -86,9 +86,9 @@ impl Progress {
     // what a join waits for is listed.
     fn follows(&self, trace: &Trace, e: u16) -> bool
         requires { (l : ℕ) → l < locks
-            → get_or self.now.acquires l 0 ≤ length (decode_all trace.now.records.now) }
-        ensures { (before : List ℕ) → Listed (decode_all trace.now.records.now) before self.now
-            → result ≡ may_follow (decode_all trace.now.records.now) before e }
+            → get_or self.now.acquires l 0 ≤ length (decode_all trace.now.records.bytes.now) }
+        ensures { (before : List ℕ) → Listed (decode_all trace.now.records.bytes.now) before self.now
+            → result ≡ may_follow (decode_all trace.now.records.bytes.now) before e }
     {
         if e == 0 {
             return false;
@@ -110,10 +110,10 @@ impl Progress {
     // Notes that event e is listed: as the latest of its task, of its lock where it is an outer acquire, and
     // of its variable where it is a write.
     fn note(&mut self, trace: &Trace, e: u16)
-        requires { (1 ≤ e) × (2 * e ≤ length trace.now.records.now) }
-        ensures { (before : List ℕ) → Listed (decode_all trace.now.records.now) before self.old
-            → T (may_follow (decode_all trace.now.records.now) before e)
-            → Listed (decode_all trace.now.records.now) (e ∷ before) self.new }
+        requires { (1 ≤ e) × (2 * e ≤ length trace.now.records.bytes.now) }
+        ensures { (before : List ℕ) → Listed (decode_all trace.now.records.bytes.now) before self.old
+            → T (may_follow (decode_all trace.now.records.bytes.now) before e)
+            → Listed (decode_all trace.now.records.bytes.now) (e ∷ before) self.new }
     {
         let at = e as usize;
         self.last[trace.task(at) as usize] = e;
@@ -131,8 +131,8 @@ impl Progress {
 
     // Whether every event of the pattern comes next in its task after what is listed.
     fn leaves_next(&self, trace: &Trace, pattern: &[u8]) -> bool
-        requires { T (all (is_event (decode_all trace.now.records.now)) (numbers pattern.now)) }
-        ensures { result ≡ all (is_next (decode_all trace.now.records.now) self.now.last)
+        requires { T (all (is_event (decode_all trace.now.records.bytes.now)) (numbers pattern.now)) }
+        ensures { result ≡ all (is_next (decode_all trace.now.records.bytes.now) self.now.last)
             (numbers pattern.now) }
     {
         for i in 0..pattern.len() / 2 {
@@ -147,8 +147,8 @@ impl Progress {
 // What is listed after the schedule, if it is order-keeping: each number may follow those before it.
 fn keeps_order(trace: &Trace, schedule: &[u8]) -> Option<Progress>
     ensures { MatchOption result
-        (sync_preserving (decode_all trace.now.records.now) (numbers schedule.now) ≡ false)
-        (Kept (decode_all trace.now.records.now) (numbers schedule.now)) }
+        (sync_preserving (decode_all trace.now.records.bytes.now) (numbers schedule.now) ≡ false)
+        (Kept (decode_all trace.now.records.bytes.now) (numbers schedule.now)) }
 {
     let mut progress = Progress {
         last: [0; 16],
@@ -168,8 +168,8 @@ fn keeps_order(trace: &Trace, schedule: &[u8]) -> Option<Progress>
 // Whether the schedule witnesses the pattern: its length is even, it is order-keeping, and it leaves every
 // event of the pattern next.
 pub fn witnessed(trace: &Trace, pattern: &[u8], schedule: &[u8]) -> bool
-    requires { T (all (is_event (decode_all trace.now.records.now)) (numbers pattern.now)) }
-    ensures { result ≡ (is_whole schedule.now && witnesses (decode_all trace.now.records.now)
+    requires { T (all (is_event (decode_all trace.now.records.bytes.now)) (numbers pattern.now)) }
+    ensures { result ≡ (is_whole schedule.now && witnesses (decode_all trace.now.records.bytes.now)
         (numbers schedule.now) (numbers pattern.now)) }
 {
     if schedule.len() % 2 != 0 {
@@ -184,7 +184,7 @@ pub fn witnessed(trace: &Trace, pattern: &[u8], schedule: &[u8]) -> bool
 // Decides the bytes of a pattern and a schedule: whether the second witnesses the first, or nothing where
 // that is no pattern.
 fn decide(trace: &Trace, pattern: &[u8], schedule: &[u8]) -> Option<bool>
-    ensures { result ≡ answered (decode_all trace.now.records.now) pattern.now schedule.now }
+    ensures { result ≡ answered (decode_all trace.now.records.bytes.now) pattern.now schedule.now }
 {
     if !deadlock::lends_pattern(trace, pattern) {
         return None;
@@ -198,5 +198,7 @@ pub fn check_schedule(recording: &[u8], pattern: &[u8], schedule: &[u8]) -> Resu
     ensures { checked_of result ≡ check_schedule recording.now pattern.now schedule.now }
 {
     let records = Records::read(recording)?;
-    decide(&Trace::new(&records), pattern, schedule).ok_or(Question::Pattern.into())
+    let mut tables = Tables::blank();
+    let trace = Trace::new(&records, &mut tables);
+    decide(&trace, pattern, schedule).ok_or(Question::Pattern.into())
 }

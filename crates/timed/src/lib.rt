@@ -15,7 +15,7 @@ ghost use Rattle.model.specs.Calls.CheckSchedule.{check_schedule};
 use frontier::Frontier;
 use model::Question;
 use recording::Records;
-use relations::Trace;
+use relations::{Tables, Trace};
 
 // Checks a recording: its refusal.
 #[unsafe(no_mangle)]
@@ -58,8 +58,9 @@ pub extern "C" fn timed_tables(recording: &[u8]) -> u64
     ensures { cond (is_accepted (check recording.now)) 0 result
         ≡ (check recording.now).refusal }
 {
+    let mut tables = Tables::blank();
     match Records::read(recording) {
-        Ok(records) => compare_entries(&Trace::new(&records)),
+        Ok(records) => compare_entries(&Trace::new(&records, &mut tables)),
         Err(refusal) => refusal.question.number(),
     }
 }
@@ -77,8 +78,9 @@ fn decide_often(trace: &Trace, pattern: &[u8], rounds: u64) -> Result<Option<Fro
 // pattern or no accepted recording, 1 for "not", 2 for deadlock.
 #[unsafe(no_mangle)]
 pub extern "C" fn timed_verdicts(recording: &[u8], pattern: &[u8], rounds: u64) -> u64 {
+    let mut tables = Tables::blank();
     let decided = match Records::read(recording) {
-        Ok(records) => decide_often(&Trace::new(&records), pattern, rounds),
+        Ok(records) => decide_often(&Trace::new(&records, &mut tables), pattern, rounds),
         Err(refusal) => Err(refusal.question),
     };
     match decided {

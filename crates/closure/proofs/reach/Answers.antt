@@ -10,7 +10,7 @@ use Rattle.closure.proofs.reach.Goals as goal
 
 pub advance-requires : goal.advance-requires
 advance-requires c =
-    let σ = decode_all c.args.trace.now.records.now in
+    let σ = decode_all c.args.trace.now.records.bytes.now in
     let want = c.wanted.result in
     rw c.empty-frontier.ensures
     (settled-start σ _ want _ (wanted_frontier σ c.args.words.now want (search rules) c.wanted.ensures)
@@ -18,7 +18,7 @@ advance-requires c =
 
 pub returns : goal.returns
 returns c =
-    let records = c.args.trace.now.records.now in
+    let records = c.args.trace.now.records.bytes.now in
     let want = c.wanted.result in
     wanted-closes (decode_all records) c.args.words.now want (search rules) c.wanted.ensures
-    (events_sound records c.args.trace.now.accepted) _ _ c.advance.ensures.0
+    (events_sound records c.args.trace.now.records.accepted) _ _ c.advance.ensures.0

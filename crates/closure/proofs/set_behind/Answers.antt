@@ -14,6 +14,6 @@ loop-e-init c = λ i. row-none _ i _ refl
 
 pub returns : goal.returns
 returns c =
-    let records = c.args.trace.now.records.now in
+    let records = c.args.trace.now.records.bytes.now in
     let last : c.loop-e.e - 1 ≡ length (decode_all records) = omega (arith, decode_all-length records) in
     λ i. rw last at (c.loop-e.invariant i)

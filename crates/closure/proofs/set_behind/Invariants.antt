@@ -14,4 +14,4 @@ abbrev pub invariant-loop-e : goal.invariant-loop-e
 invariant-loop-e l =
     (i : ℕ) → row_bit 64 l.words i
     ≡ (ltb i (l.e - 1) && leb (suc i) (get_or l.frontier.front
-    (task (decode_all l.trace.records.now) (suc i)) 0))
+    (task (decode_all l.trace.records.bytes.now) (suc i)) 0))

@@ -9,6 +9,6 @@ use Rattle.closure.proofs.wanted.Goals as goal
 
 pub returns : goal.returns
 returns c =
-    let records = c.args.trace.now.records.now in
+    let records = c.args.trace.now.records.bytes.now in
     let last : c.loop-e.e ≡ length (decode_all records) + 1 = omega (arith, decode_all-length records) in
     rw last at c.loop-e.invariant

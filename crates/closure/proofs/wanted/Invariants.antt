@@ -7,5 +7,5 @@ use Prim.Native.Nat.{◌-◌}
 use Rattle.closure.proofs.wanted.Given as goal
 
 abbrev pub invariant-loop-e : goal.invariant-loop-e
-invariant-loop-e l = LatestEvents (λ f. row_bit 64 l.words (f - 1)) (task (decode_all l.trace.records.now))
+invariant-loop-e l = LatestEvents (λ f. row_bit 64 l.words (f - 1)) (task (decode_all l.trace.records.bytes.now))
     l.e l.want

@@ -9,23 +9,23 @@ use Rattle.deadlock.proofs.begins.Goals as goal
 pub returns-then-e-eq0 : goal.returns-then-e-eq0
 returns-then-e-eq0 c =
     let a = c.args in
-    rw (is_event_false (decode_all a.trace.now.records.now) a.e (λ h. omega (arith, c.if-e-eq0.true)))
+    rw (is_event_false (decode_all a.trace.now.records.bytes.now) a.e (λ h. omega (arith, c.if-e-eq0.true)))
 
 pub returns-then-len-e : goal.returns-then-len-e
 returns-then-len-e c =
     let a = c.args in
-    rw (is_event_false (decode_all a.trace.now.records.now) a.e
+    rw (is_event_false (decode_all a.trace.now.records.bytes.now) a.e
     (λ h. omega (arith, c.if-len-e.true, c.len.ensures)))
 
 pub is_acquire-requires : goal.is_acquire-requires
 is_acquire-requires c =
     let first : 1 ≤ c.args.e = omega (arith, c.if-e-eq0.false) in
-    let last : c.args.e ≤ length (decode_all c.args.trace.now.records.now) =
+    let last : c.args.e ≤ length (decode_all c.args.trace.now.records.bytes.now) =
     omega (arith, c.if-len-e.false, c.len.ensures) in
-    (first, omega (arith, last, decode_all-length c.args.trace.now.records.now), c.held.ensures)
+    (first, omega (arith, last, decode_all-length c.args.trace.now.records.bytes.now), c.held.ensures)
 
 pub returns : goal.returns
 returns c =
-    let event = is_event_true (decode_all c.args.trace.now.records.now) c.args.e
+    let event = is_event_true (decode_all c.args.trace.now.records.bytes.now) c.args.e
     (omega (arith, c.if-e-eq0.false)) (omega (arith, c.if-len-e.false, c.len.ensures)) in
     rw event c.is_acquire.ensures

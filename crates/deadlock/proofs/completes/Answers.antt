@@ -17,7 +17,7 @@ use Rattle.deadlock.proofs.completes.Goals.{After-number-e}
 
 pub loop-i-init : goal.loop-i-init
 loop-i-init c =
-    let σ = decode_all c.args.trace.now.records.now in
+    let σ = decode_all c.args.trace.now.records.bytes.now in
     let is = c.start-chain.ensures in
     let last = ap (λ (x : Chain). x.last) is in (
       ap (λ (x : Chain). x.first) is,
@@ -28,7 +28,7 @@ loop-i-init c =
     )
 
 -- What the numbers from a place on must complete, by the next one.
-next : (c : goal.After-number-e) → let σ = decode_all c.args.trace.now.records.now in
+next : (c : goal.After-number-e) → let σ = decode_all c.args.trace.now.records.bytes.now in
     let k = c.loop-i in
     let ns = numbers c.args.pattern.now in
     let e = c.number-e.result in
@@ -39,7 +39,7 @@ next c =
     let k = c.loop-i in
     let ns = numbers c.args.pattern.now in
     let size = numbers-length c.args.pattern.now in
-    rw c.number-e.ensures (completing_next (decode_all c.args.trace.now.records.now) ns (of_events [] k.chain)
+    rw c.number-e.ensures (completing_next (decode_all c.args.trace.now.records.bytes.now) ns (of_events [] k.chain)
     k.i (omega (arith, c.loop-i-test.true)))
 
 pub returns-then-not-joins : goal.returns-then-not-joins
@@ -54,9 +54,9 @@ add-chain-requires c =
 pub loop-i-preserved : goal.loop-i-preserved
 loop-i-preserved c =
     let yes = sym c.joins.ensures ∙ c.if-not-joins.false in
-    let σ = decode_all c.args.trace.now.records.now in
+    let σ = decode_all c.args.trace.now.records.bytes.now in
     let rest = drop (c.loop-i.i + 1) (numbers c.args.pattern.now) in
-    let z = joins-event c.args.trace.now.records.now _ _ yes in
+    let z = joins-event c.args.trace.now.records.bytes.now _ _ yes in
     let is = c.add-chain.ensures [] in
     let last = ap (λ (x : Chain). x.last) is in (
       ap (λ (x : Chain). x.first) is ∙ c.loop-i.invariant.0,
@@ -72,5 +72,5 @@ returns c =
     let k = c.loop-i in
     let count = numbers-length c.args.pattern.now in
     c.closes.ensures
-    ∙ sym (completing_last (decode_all c.args.trace.now.records.now) (numbers c.args.pattern.now)
+    ∙ sym (completing_last (decode_all c.args.trace.now.records.bytes.now) (numbers c.args.pattern.now)
     (of_events [] k.chain) k.i (omega (arith, c.loop-i-test.false))) ∙ k.invariant.4

@@ -16,7 +16,7 @@ overflow_add-count c =
     let k = c.loop-e in
     omega (
       arith,
-      behind-count (decode_all c.args.trace.now.records.now) c.args.frontier.now.front k.e k.auto.e,
+      behind-count (decode_all c.args.trace.now.records.bytes.now) c.args.frontier.now.front k.e k.auto.e,
       c.loop-e-test.true,
       c.len-e-end.ensures,
     )
@@ -24,7 +24,7 @@ overflow_add-count c =
 pub loop-e-preserved : goal.loop-e-preserved
 loop-e-preserved c =
     let k = c.loop-e in
-    let σ = decode_all c.args.trace.now.records.now in
+    let σ = decode_all c.args.trace.now.records.bytes.now in
     let front = c.args.frontier.now.front in
     let is = c.contains.ensures in
     elim c.if-contains.branch [
@@ -41,14 +41,14 @@ loop-e-preserved c =
 pub returns : goal.returns
 returns c =
     let k = c.loop-e in
-    let σ = decode_all c.args.trace.now.records.now in
-    let size = decode_all-length c.args.trace.now.records.now in
+    let σ = decode_all c.args.trace.now.records.bytes.now in
+    let size = decode_all-length c.args.trace.now.records.bytes.now in
     let last : k.e ≡ length σ + 1 = omega (arith, c.loop-e-test.false, k.auto.e-end, c.len-e-end.ensures) in (
       omega (
         arith,
         k.invariant,
         behind-count σ c.args.frontier.now.front k.e k.auto.e,
-        c.args.trace.now.short,
+        c.args.trace.now.records.short,
       ),
       k.invariant ∙ ap (λ (e : ℕ). length (behind_below σ c.args.frontier.now.front e)) last,
     )

@@ -17,7 +17,7 @@ use Rattle.deadlock.proofs.decide.Goals.{Else-not-lends_pattern}
 -- The lent bytes are a pattern.
 pattern-lent : (c : goal.Else-not-lends_pattern)
     → (is_whole c.args.pattern.now
-    && is_pattern (decode_all c.args.trace.now.records.now)
+    && is_pattern (decode_all c.args.trace.now.records.bytes.now)
     (numbers c.args.pattern.now))
     ≡ true
 pattern-lent c = sym c.lends_pattern.ensures ∙ c.if-not-lends_pattern.false
@@ -25,28 +25,28 @@ pattern-lent c = sym c.lends_pattern.ensures ∙ c.if-not-lends_pattern.false
 pub returns-then-not-lends_pattern : goal.returns-then-not-lends_pattern
 returns-then-not-lends_pattern c = (
   refl,
-  judged-none (decode_all c.args.trace.now.records.now) c.args.pattern.now
+  judged-none (decode_all c.args.trace.now.records.bytes.now) c.args.pattern.now
       (sym c.lends_pattern.ensures ∙ c.if-not-lends_pattern.true),
 )
 
 pub reach-frontier-requires : goal.reach-frontier-requires
 reach-frontier-requires c =
-    lent_events (decode_all c.args.trace.now.records.now) c.args.pattern.now
+    lent_events (decode_all c.args.trace.now.records.bytes.now) c.args.pattern.now
     (pattern-lent (goal.at.reach-frontier-requires c).Else-not-lends_pattern)
 
 pub avoids-requires-clause-events : goal.avoids-requires-clause-events
 avoids-requires-clause-events c = λ i e h k.
     let p = c.args.pattern.now in
     let is : e ≡ get_or (numbers p) i 0 = search rules in
-    let (x, y, z) = listed-event c.args.trace.now.records.now (numbers p) i
-    (lent_events (decode_all c.args.trace.now.records.now) p
+    let (x, y, z) = listed-event c.args.trace.now.records.bytes.now (numbers p) i
+    (lent_events (decode_all c.args.trace.now.records.bytes.now) p
     (pattern-lent (goal.at.avoids-requires-clause-events c).Else-not-lends_pattern))
     (numbers_inside p h) is in
     (x, z)
 
 pub returns-then-avoids : goal.returns-then-avoids
 returns-then-avoids c =
-    let σ = decode_all c.args.trace.now.records.now in
+    let σ = decode_all c.args.trace.now.records.bytes.now in
     let p = c.args.pattern.now in
     let z = c.reach-frontier.ensures in
     let v = c.avoids.ensures (numbers p) (numbers-length p, λ i e h k. search rules) in (
@@ -57,7 +57,7 @@ returns-then-avoids c =
 
 pub returns : goal.returns
 returns c =
-    let σ = decode_all c.args.trace.now.records.now in
+    let σ = decode_all c.args.trace.now.records.bytes.now in
     let p = c.args.pattern.now in
     let v = c.avoids.ensures (numbers p) (numbers-length p, λ i e h k. search rules) in
     judged-verdict σ p (pattern-lent (goal.at.returns c).Else-not-lends_pattern) _ _

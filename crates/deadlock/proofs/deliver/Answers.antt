@@ -11,7 +11,7 @@ pub returns-then-out-bytes : goal.returns-then-out-bytes
 returns-then-out-bytes c =
     let a = c.args in
     let (x, y) =
-    delivered_short (behind (decode_all a.trace.now.records.now) a.frontier.now.front) a.out.now _
+    delivered_short (behind (decode_all a.trace.now.records.bytes.now) a.frontier.now.front) a.out.now _
     c.count_behind-bytes.ensures.1 (omega (arith, c.if-out-bytes.true)) in
     record { answer = sym x; output = sym y }
 
@@ -19,7 +19,7 @@ pub returns : goal.returns
 returns c =
     let a = c.args in
     let (x, y) =
-    delivered-written (behind (decode_all a.trace.now.records.now) a.frontier.now.front) a.out.now _
+    delivered-written (behind (decode_all a.trace.now.records.bytes.now) a.frontier.now.front) a.out.now _
     c.count_behind-bytes.ensures.1
     (omega (arith, c.if-out-bytes.false)) in
     record { answer = sym x; output = c.write_behind.ensures ∙ sym y }

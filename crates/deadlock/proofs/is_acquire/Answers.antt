@@ -11,25 +11,25 @@ use Rattle.deadlock.proofs.is_acquire.Goals as goal
 use Rattle.deadlock.proofs.is_acquire.Goals.{Start}
 
 -- The records are accepted, so their trace is well-formed.
-sound : (c : goal.Start) → WellFormed (decode_all c.args.trace.now.records.now)
-sound c = events_sound c.args.trace.now.records.now c.args.trace.now.accepted
+sound : (c : goal.Start) → WellFormed (decode_all c.args.trace.now.records.bytes.now)
+sound c = events_sound c.args.trace.now.records.bytes.now c.args.trace.now.records.accepted
 
 pub returns-then-l-lt64 : goal.returns-then-l-lt64
 returns-then-l-lt64 c =
     rw c.in_mask.ensures
-    (acquires_own (decode_all c.args.trace.now.records.now) (sound (goal.at.returns-then-l-lt64 c).Start)
+    (acquires_own (decode_all c.args.trace.now.records.bytes.now) (sound (goal.at.returns-then-l-lt64 c).Start)
     c.args.e
     c.in-Acquire.ensures c.object-l.ensures.1 refl c.if-l-lt64.true c.requires.2)
 
 pub returns-else-l-lt64 : goal.returns-else-l-lt64
 returns-else-l-lt64 c =
     rw (le-ltb c.object-l.result 64 c.if-l-lt64.false)
-    (acquires-task (decode_all c.args.trace.now.records.now) (sound (goal.at.returns-else-l-lt64 c).Start)
+    (acquires-task (decode_all c.args.trace.now.records.bytes.now) (sound (goal.at.returns-else-l-lt64 c).Start)
     c.args.e
     c.in-Acquire.ensures c.object-l.ensures.1 c.if-l-lt64.false)
 
 pub returns-in_default : goal.returns-in_default
 returns-in_default c =
-    acquires-not (decode_all c.args.trace.now.records.now) (sound (goal.at.returns-in_default c).Start)
+    acquires-not (decode_all c.args.trace.now.records.bytes.now) (sound (goal.at.returns-in_default c).Start)
     c.args.e
     c.operation.ensures (code_apart _ Acquire c.in_default.not-Acquire)

@@ -6,6 +6,6 @@ use Rattle.deadlock.proofs.lock_in_mask.Goals as goal
 
 pub in_mask-requires : goal.in_mask-requires
 in_mask-requires c =
-    let b = c.args.trace.now.records.now in
-    let lock = acquire_lt (decode_all b) (events_sound b c.args.trace.now.accepted) c.args.e c.requires.2 in
+    let b = c.args.trace.now.records.bytes.now in
+    let lock = acquire_lt (decode_all b) (events_sound b c.args.trace.now.records.accepted) c.args.e c.requires.2 in
     rw c.object.ensures.1 lock

@@ -17,14 +17,14 @@ use Rattle.deadlock.proofs.reach.Goals.{Start}
 -- A number of the pattern is an event.
 event : (s : goal.Start) {i e : ℕ} → i < length s.args.pattern.now / 2
     → e ≡ get_or (numbers s.args.pattern.now) i 0
-    → (1 ≤ e) × (e ≤ length (decode_all s.args.trace.now.records.now))
-    × (2 * e ≤ length s.args.trace.now.records.now)
+    → (1 ≤ e) × (e ≤ length (decode_all s.args.trace.now.records.bytes.now))
+    × (2 * e ≤ length s.args.trace.now.records.bytes.now)
 event c {i} h is =
     let p = c.args.pattern.now in
-    listed-event c.args.trace.now.records.now (numbers p) i c.requires (numbers_inside p h) is
+    listed-event c.args.trace.now.records.bytes.now (numbers p) i c.requires (numbers_inside p h) is
 
 pub loop-i-init : goal.loop-i-init
-loop-i-init c = rw c.empty-frontier.ensures (before-start (decode_all c.args.trace.now.records.now) _ _
+loop-i-init c = rw c.empty-frontier.ensures (before-start (decode_all c.args.trace.now.records.bytes.now) _ _
     refl refl)
 
 pub extend-requires : goal.extend-requires
@@ -36,11 +36,11 @@ extend-requires c =
 pub loop-i-preserved : goal.loop-i-preserved
 loop-i-preserved c =
     let k = c.loop-i in
-    let b = c.args.trace.now.records.now in
+    let b = c.args.trace.now.records.bytes.now in
     let more = c.loop-i-test.true in
     let (h, l, j) = event (goal.at.loop-i-preserved c).Start more c.number.ensures in
     before-next (decode_all b) (numbers c.args.pattern.now) k.i
-    (numbers_inside c.args.pattern.now more) (events_sound b c.args.trace.now.accepted) k.frontier.front
+    (numbers_inside c.args.pattern.now more) (events_sound b c.args.trace.now.records.accepted) k.frontier.front
     k.frontier.latest _ _ _ c.number.ensures k.invariant h l c.extend.ensures
 
 pub returns : goal.returns

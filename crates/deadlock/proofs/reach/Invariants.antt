@@ -7,4 +7,4 @@ use Rattle.deadlock.proofs.reach.Given as goal
 
 abbrev pub invariant-loop-i : goal.invariant-loop-i
 invariant-loop-i l =
-    Before (decode_all l.trace.records.now) (take l.i (numbers l.pattern)) l.frontier.front l.frontier.latest
+    Before (decode_all l.trace.records.bytes.now) (take l.i (numbers l.pattern)) l.frontier.front l.frontier.latest

@@ -14,7 +14,7 @@ pub returns-in_err-decide : goal.returns-in_err-decide
 returns-in_err-decide c =
     let a = c.args in
     let (q, none) = c.in_err-decide.ensures in
-    let (x, y) = witness_from-none (decode_all a.trace.now.records.now) a.pattern.now a.out.now none in
+    let (x, y) = witness_from-none (decode_all a.trace.now.records.bytes.now) a.pattern.now a.out.now none in
     record {
       answer = rw (
         passed_on c.from_residual.result (refusal c.in_err-decide.field-0.0 0)
@@ -28,7 +28,7 @@ pub returns-in-None : goal.returns-in-None
 returns-in-None c =
     let a = c.args in
     let not = rw c.in-None.is at c.in_ok-decide.ensures in
-    let (x, y) = witness_from-not (decode_all a.trace.now.records.now) a.pattern.now a.out.now not in
+    let (x, y) = witness_from-not (decode_all a.trace.now.records.bytes.now) a.pattern.now a.out.now not in
     record { answer = x; output = y }
 
 pub returns-in_err-deliver-in-Some : goal.returns-in_err-deliver-in-Some
@@ -36,7 +36,7 @@ returns-in_err-deliver-in-Some c =
     let a = c.args in
     let (is, front) = rw c.in-Some.is at c.in_ok-decide.ensures in
     let delivered = c.in_err-deliver-in-Some.ensures in
-    let (x, y) = witness_from_deadlock (decode_all a.trace.now.records.now) a.pattern.now a.out.now is _
+    let (x, y) = witness_from_deadlock (decode_all a.trace.now.records.bytes.now) a.pattern.now a.out.now is _
     front in
     record {
       answer = rw (passed_on c.from_residual-in_err-deliver-in-Some.result _
@@ -50,6 +50,6 @@ returns-in_ok-deliver-in-Some c =
     let a = c.args in
     let (is, front) = rw c.in-Some.is at c.in_ok-decide.ensures in
     let delivered = c.in_ok-deliver-in-Some.ensures in
-    let (x, y) = witness_from_deadlock (decode_all a.trace.now.records.now) a.pattern.now a.out.now is _
+    let (x, y) = witness_from_deadlock (decode_all a.trace.now.records.bytes.now) a.pattern.now a.out.now is _
     front in
     record { answer = ap (answer_by (Some Deadlock)) delivered.answer ∙ x; output = delivered.output ∙ y }

@@ -15,13 +15,13 @@ use Rattle.deadlock.proofs.write_behind.Goals as goal
 pub write_one-at-requires : goal.write_one-at-requires
 write_one-at-requires c =
     let k = c.loop-e in
-    let σ = decode_all c.args.trace.now.records.now in
+    let σ = decode_all c.args.trace.now.records.bytes.now in
     let front = c.args.frontier.now.front in
-    let size = decode_all-length c.args.trace.now.records.now in
+    let size = decode_all-length c.args.trace.now.records.bytes.now in
     let inside : k.e ≤ length σ = omega (arith, c.loop-e-test.true, c.len-e-end.ensures) in (
       k.auto.e,
       omega arith,
-      omega (arith, c.args.trace.now.short),
+      omega (arith, c.args.trace.now.records.short),
       omega (
         arith,
         written_at σ front k.e k.auto.e k.out k.at k.invariant.0,
@@ -35,7 +35,7 @@ write_one-at-requires c =
 pub loop-e-preserved : goal.loop-e-preserved
 loop-e-preserved c =
     let k = c.loop-e in
-    let σ = decode_all c.args.trace.now.records.now in
+    let σ = decode_all c.args.trace.now.records.bytes.now in
     let front = c.args.frontier.now.front in
     let w = c.write_one-at.ensures in (
       w.0 ∙ written_at σ front k.e k.auto.e k.out k.at k.invariant.0,
@@ -45,8 +45,8 @@ loop-e-preserved c =
 pub returns : goal.returns
 returns c =
     let k = c.loop-e in
-    let σ = decode_all c.args.trace.now.records.now in
-    let size = decode_all-length c.args.trace.now.records.now in
+    let σ = decode_all c.args.trace.now.records.bytes.now in
+    let size = decode_all-length c.args.trace.now.records.bytes.now in
     let last : k.e ≡ length σ + 1 = omega (arith, c.loop-e-test.false, k.auto.e-end, c.len-e-end.ensures) in
     k.invariant.1 ∙ ap (λ (e : ℕ). sets c.args.out.now 0
     (encode (behind_below σ c.args.frontier.now.front e))) last

@@ -7,5 +7,5 @@ use Rattle.frontier.proofs.begin.Goals as goal
 
 pub want_event-requires : goal.want_event-requires
 want_event-requires c =
-    let b = c.args.trace.now.records.now in
+    let b = c.args.trace.now.records.bytes.now in
     omega (arith, c.start-start.ensures, start_in_le (decode_all b) c.args.t, decode_all-length b)

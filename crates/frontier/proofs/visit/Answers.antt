@@ -15,27 +15,27 @@ use Rattle.frontier.proofs.visit.Goals as goal
 use Rattle.frontier.proofs.visit.Goals.{Start}
 
 -- The event with its operation and its mark.
-unpacked : (c : goal.Start) (op m : ℕ) → op ≡ (at (decode_all c.args.trace.now.records.now) c.args.f).op
-    → m ≡ marked (decode_all c.args.trace.now.records.now) c.args.f
-    → WithMark (decode_all c.args.trace.now.records.now) c.args.f op m
+unpacked : (c : goal.Start) (op m : ℕ) → op ≡ (at (decode_all c.args.trace.now.records.bytes.now) c.args.f).op
+    → m ≡ marked (decode_all c.args.trace.now.records.bytes.now) c.args.f
+    → WithMark (decode_all c.args.trace.now.records.bytes.now) c.args.f op m
 unpacked c op m is mark =
-    let (h, k) = record-event c.args.trace.now.records.now c.args.f (c.requires.0, c.requires.1) in
+    let (h, k) = record-event c.args.trace.now.records.bytes.now c.args.f (c.requires.0, c.requires.1) in
     record { event = h; op_is = is; mark_is = mark }
 
 pub visit_acquire-requires : goal.visit_acquire-requires
 visit_acquire-requires c =
-    let b = c.args.trace.now.records.now in
+    let b = c.args.trace.now.records.bytes.now in
     let u = unpacked (goal.at.visit_acquire-requires c).Start 2 _ c.in-Acquire.ensures c.matching.ensures in
     let outer = marked_outer u refl c.if-matching-f.true in (
       c.requires.0,
       c.requires.1,
-      acquire_lt (decode_all b) (events_sound b c.args.trace.now.accepted) c.args.f (rw outer tt),
+      acquire_lt (decode_all b) (events_sound b c.args.trace.now.records.accepted) c.args.f (rw outer tt),
     )
 
 pub want_event-requires : goal.want_event-requires
 want_event-requires c =
-    let (h, k) = record-event c.args.trace.now.records.now c.args.f (c.requires.0, c.requires.1) in
-    awaited_in c.args.trace.now.records.now c.args.f (h, c.requires.1) _ c.awaited.ensures
+    let (h, k) = record-event c.args.trace.now.records.bytes.now c.args.f (c.requires.0, c.requires.1) in
+    awaited_in c.args.trace.now.records.bytes.now c.args.f (h, c.requires.1) _ c.awaited.ensures
 
 pub returns-then-matching-f : goal.returns-then-matching-f
 returns-then-matching-f c =

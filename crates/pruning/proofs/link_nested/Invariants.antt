@@ -6,4 +6,4 @@ use Rattle.pruning.proofs.Nested.{LinkedAfter}
 use Rattle.pruning.proofs.link_nested.Given as goal
 
 abbrev pub invariant-loop-e : goal.invariant-loop-e
-invariant-loop-e l = LinkedAfter (decode_all l.trace.records.now) (l.e - 1) l.top l.next
+invariant-loop-e l = LinkedAfter (decode_all l.trace.records.bytes.now) (l.e - 1) l.top l.next

@@ -6,7 +6,7 @@ use Rattle.pruning.proofs.Blocks.{Marking}
 use Rattle.pruning.proofs.mark_blocks.Given as goal
 
 abbrev pub invariant-loop-e : goal.invariant-loop-e
-invariant-loop-e l = Marking (decode_all l.trace.records.now) l.blocks l.at
+invariant-loop-e l = Marking (decode_all l.trace.records.bytes.now) l.blocks l.at
 
 abbrev pub decreases-loop-e : goal.decreases-loop-e
-decreases-loop-e l = length (decode_all l.trace.records.now) - l.at
+decreases-loop-e l = length (decode_all l.trace.records.bytes.now) - l.at

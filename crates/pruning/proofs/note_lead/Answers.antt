@@ -13,16 +13,16 @@ use Rattle.pruning.proofs.note_lead.Goals as goal
 use Rattle.pruning.proofs.note_lead.Goals.{Start}
 
 -- The object of the acquire is a lock.
-lock : (c : goal.Start) → object (decode_all c.args.trace.now.records.now) c.args.e < locks
+lock : (c : goal.Start) → object (decode_all c.args.trace.now.records.bytes.now) c.args.e < locks
 lock c =
     let trace = c.args.trace.now in
-    acquire_lt (decode_all trace.records.now) (events_sound trace.records.now trace.accepted)
+    acquire_lt (decode_all trace.records.bytes.now) (events_sound trace.records.bytes.now trace.records.accepted)
     c.args.e c.requires.2
 
 pub returns-then-guards-held-ne0 : goal.returns-then-guards-held-ne0
 returns-then-guards-held-ne0 c =
     let a = c.args in
-    led-next (decode_all a.trace.now.records.now) a.a (number_of a.t) a.guards a.lead.now a.e c.requires.3
+    led-next (decode_all a.trace.now.records.bytes.now) a.a (number_of a.t) a.guards a.lead.now a.e c.requires.3
     (λ d n. absurd (c.if-guards-held-ne0.true (rw c.held-held.ensures (eqb→eq _ 0 n))))
 
 pub bounds-lead-l : goal.bounds-lead-l
@@ -37,5 +37,5 @@ pub returns : goal.returns
 returns c =
     let a = c.args in
     let is-object = c.object-l.ensures.1 in
-    led_noted (decode_all a.trace.now.records.now) a.a (number_of a.t) a.guards a.lead.now a.e c.requires.3
+    led_noted (decode_all a.trace.now.records.bytes.now) a.a (number_of a.t) a.guards a.lead.now a.e c.requires.3
     _ _ (omega (arith, lock (goal.at.returns c).Start, is-object)) is-object c.held-held.ensures

@@ -8,12 +8,12 @@ use Rattle.pruning.proofs.ways_back.Goals as goal
 use Rattle.pruning.proofs.ways_back.Goals.{After-fill_back-back}
 
 -- The table has the ways back.
-filled : (c : After-fill_back-back) → Returning (decode_all c.args.trace.now.records.now) c.args.a
+filled : (c : After-fill_back-back) → Returning (decode_all c.args.trace.now.records.bytes.now) c.args.a
     c.args.count
     c.fill_back-back.result
 filled c =
-    let b = c.args.trace.now.records.now in
-    returning_spread (decode_all b) (events_sound b c.args.trace.now.accepted) c.args.a c.args.count
+    let b = c.args.trace.now.records.bytes.now in
+    returning_spread (decode_all b) (events_sound b c.args.trace.now.records.accepted) c.args.a c.args.count
     c.args.lead.now _ c.requires.3 c.fill_back-back.ensures.0 (c.fill_back-back.ensures.1 ∙ c.held.ensures)
 
 pub returns-then-not-lock_in_mask : goal.returns-then-not-lock_in_mask

@@ -14,7 +14,7 @@ returns-in_err-records c =
 
 pub returns : goal.returns
 returns c =
-    let is = rw (c.new.ensures, c.in_ok-records.ensures.events) at c.decide.ensures in
+    let is = rw (c.new-trace.ensures, c.in_ok-records.ensures.events) at c.decide.ensures in
     rw (c.ok_or.ensures.value, c.into.ensures, is)
     (checked_accepted c.args.recording.now c.args.pattern.now c.args.schedule.now
     (is_passed _ c.in_ok-records.ensures.outcome))

@@ -10,7 +10,7 @@ use Rattle.schedule.proofs.keeps_order.Goals.{After-follows}
 asked : (c : goal.After-follows)
     → let a = c.args in
     let l = c.loop-i in
-    Turn (decode_all a.trace.now.records.now) a.schedule.now l.i l.progress c.number-e.result c.follows.result
+    Turn (decode_all a.trace.now.records.bytes.now) a.schedule.now l.i l.progress c.number-e.result c.follows.result
 asked c = record {
   walking = c.loop-i.invariant;
   here = c.loop-i-test.true;
@@ -28,7 +28,7 @@ returns-then-not-follows c =
 pub note-requires : goal.note-requires
 note-requires c =
     let k = asked (goal.at.note-requires c).After-follows in
-    follows_in c.args.trace.now.records.now _ _ (walking_may k c.if-not-follows.false)
+    follows_in c.args.trace.now.records.bytes.now _ _ (walking_may k c.if-not-follows.false)
 
 pub loop-i-preserved : goal.loop-i-preserved
 loop-i-preserved c =

@@ -6,4 +6,4 @@ use Rattle.schedule.proofs.Walk.{Walking}
 use Rattle.schedule.proofs.keeps_order.Given as goal
 
 abbrev pub invariant-loop-i : goal.invariant-loop-i
-invariant-loop-i l = Walking (decode_all l.trace.records.now) (numbers l.schedule) l.i l.progress
+invariant-loop-i l = Walking (decode_all l.trace.records.bytes.now) (numbers l.schedule) l.i l.progress

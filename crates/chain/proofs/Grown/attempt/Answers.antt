@@ -18,12 +18,12 @@ use Rattle.chain.proofs.Grown.attempt.Goals.{After-grow, After-avoids}
 
 -- The frontier that has grown is that of the longer path.
 grown : (c : After-grow) → let a = c.args in
-    Before (decode_all a.trace.now.records.now) ((chain_of a.path.now).events ++ a.e ∷ [])
+    Before (decode_all a.trace.now.records.bytes.now) ((chain_of a.path.now).events ++ a.e ∷ [])
     c.grow.new.self.frontier.front c.grow.new.self.frontier.latest
 grown c = c.grow.ensures.before _ c.requires.1 c.requires.3 c.requires.4
 
 -- It avoids the events of the path, or does not.
-avoided : (c : After-avoids) → let σ = decode_all c.args.trace.now.records.now in
+avoided : (c : After-avoids) → let σ = decode_all c.args.trace.now.records.bytes.now in
     c.avoids.result
     ≡ all (λ f. not (leb f (get_or c.grow.new.self.frontier.front (task σ f) 0)))
     (chain_of c.args.path.now).events
@@ -36,20 +36,20 @@ avoided c = rw c.events-events.ensures.0 at (c.avoids.ensures c.events-events.re
 pub returns-then-not-lock_in_mask : goal.returns-then-not-lock_in_mask
 returns-then-not-lock_in_mask c =
     let a = c.args in
-    attempted_nowhere (decode_all a.trace.now.records.now) a.k (chain_of a.path.now) a.e a.self.now a.back.now
+    attempted_nowhere (decode_all a.trace.now.records.bytes.now) a.k (chain_of a.path.now) a.e a.self.now a.back.now
     c.requires.0 (sym c.lock_in_mask.ensures ∙ c.if-not-lock_in_mask.true)
 
 pub avoids-requires-clause-events : goal.avoids-requires-clause-events
 avoids-requires-clause-events c = λ i e h k.
     let is : e ≡ get_or c.events-events.result.now i 0 = search rules in
-    let (x, y, z) = listed-event c.args.trace.now.records.now c.events-events.result.now i
+    let (x, y, z) = listed-event c.args.trace.now.records.bytes.now c.events-events.result.now i
     (rw c.events-events.ensures.0 c.requires.1) h is in
     (x, z)
 
 pub returns-then-not-avoids : goal.returns-then-not-avoids
 returns-then-not-avoids c =
     let a = c.args in
-    attempted_met (decode_all a.trace.now.records.now) a.k (chain_of a.path.now) a.e a.self.now
+    attempted_met (decode_all a.trace.now.records.bytes.now) a.k (chain_of a.path.now) a.e a.self.now
     c.grow.new.self c.grow.ensures.own c.requires.1 (record-event _ a.e (c.requires.5, c.requires.6))
     (grown (goal.at.returns-then-not-avoids c).After-grow)
     (sym (avoided (goal.at.returns-then-not-avoids c).After-avoids) ∙ c.if-not-avoids.true)
@@ -57,7 +57,7 @@ returns-then-not-avoids c =
 pub returns-then-contains : goal.returns-then-contains
 returns-then-contains c =
     let a = c.args in
-    attempted_itself (decode_all a.trace.now.records.now) a.k (chain_of a.path.now) a.e a.self.now
+    attempted_itself (decode_all a.trace.now.records.bytes.now) a.k (chain_of a.path.now) a.e a.self.now
     c.grow.new.self c.grow.ensures.own c.requires.1 (record-event _ a.e (c.requires.5, c.requires.6))
     (grown (goal.at.returns-then-contains c).After-grow)
     (sym (avoided (goal.at.returns-then-contains c).After-avoids) ∙ c.if-not-avoids.false)
@@ -66,7 +66,7 @@ returns-then-contains c =
 pub returns : goal.returns
 returns c =
     let a = c.args in
-    attempted_deadlock (decode_all a.trace.now.records.now) a.k (chain_of a.path.now) a.e a.self.now
+    attempted_deadlock (decode_all a.trace.now.records.bytes.now) a.k (chain_of a.path.now) a.e a.self.now
     c.grow.new.self c.grow.ensures.own c.requires.1 (record-event _ a.e (c.requires.5, c.requires.6))
     (grown (goal.at.returns c).After-grow)
     (sym (avoided (goal.at.returns c).After-avoids) ∙ c.if-not-avoids.false)

@@ -8,7 +8,7 @@ use Rattle.chain.proofs.Grown.grow.Goals as goal
 pub returns-clause-before : goal.returns-clause-before
 returns-clause-before c =
     let a = c.args in
-    let b = a.trace.now.records.now in
+    let b = a.trace.now.records.bytes.now in
     let event = record-event b a.e (c.requires.2, c.requires.3) in
     grow_reaches (decode_all b) a.e a.frontier.now _ a.self.now c.renew.ensures.kept c.renew.ensures.copied
-    (events_sound b a.trace.now.accepted) _ _ event.0 event.1 c.extend.ensures
+    (events_sound b a.trace.now.records.accepted) _ _ event.0 event.1 c.extend.ensures

@@ -10,13 +10,13 @@ use Rattle.frontier.proofs.Frontier.advance.Goals as goal
 pub loop-t-smaller : goal.loop-t-smaller
 loop-t-smaller c =
     let k = c.loop-t in
-    let b = c.args.trace.now.records.now in
+    let b = c.args.trace.now.records.bytes.now in
     round_less (decode_all b) c.args.want.now k.self.front k.want k.self.latest k.invariant
-    (omega (arith, c.args.trace.now.short, decode_all-length b)) _ c.in-Some.ensures _ _ _ c.turn.ensures
+    (omega (arith, c.args.trace.now.records.short, decode_all-length b)) _ c.in-Some.ensures _ _ _ c.turn.ensures
 
 pub returns : goal.returns
 returns c =
     let k = c.loop-t in
-    let b = c.args.trace.now.records.now in
+    let b = c.args.trace.now.records.bytes.now in
     round_end (decode_all b) c.args.want.now k.self.front k.want k.self.latest k.invariant
-    (events_sound b c.args.trace.now.accepted) c.in_default.ensures
+    (events_sound b c.args.trace.now.records.accepted) c.in_default.ensures

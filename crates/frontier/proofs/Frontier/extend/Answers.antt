@@ -15,17 +15,17 @@ use Rattle.frontier.proofs.Frontier.extend.Goals.{After-want_event, Start}
 
 -- The predecessor is an event of the records, or 0.
 known : (c : goal.Start)
-    → predecessor (decode_all c.args.trace.now.records.now) c.args.e ≤ length (decode_all
-    c.args.trace.now.records.now)
+    → predecessor (decode_all c.args.trace.now.records.bytes.now) c.args.e ≤ length (decode_all
+    c.args.trace.now.records.bytes.now)
 known c =
-    let b = c.args.trace.now.records.now in
+    let b = c.args.trace.now.records.bytes.now in
     omega (arith, predecessor_below (decode_all b) c.args.e, c.requires.2, decode_all-length b)
 
 -- The wanted events with it.
 more : (c : goal.After-want_event)
     → c.want_event.new.want
-    ≡ wanted (decode_all c.args.trace.now.records.now) c.args.self.now.front
-    (predecessor (decode_all c.args.trace.now.records.now) c.args.e)
+    ≡ wanted (decode_all c.args.trace.now.records.bytes.now) c.args.self.now.front
+    (predecessor (decode_all c.args.trace.now.records.bytes.now) c.args.e)
 more c = rw (← c.predecessor.ensures) c.want_event.ensures
 
 pub want_event-requires : goal.want_event-requires
@@ -34,13 +34,13 @@ want_event-requires c =
       arith,
       c.predecessor.ensures,
       known (goal.at.want_event-requires c).Start,
-      decode_all-length c.args.trace.now.records.now,
+      decode_all-length c.args.trace.now.records.bytes.now,
     )
 
 pub advance-requires : goal.advance-requires
 advance-requires c =
     rw (more (goal.at.advance-requires c).After-want_event)
-    (settled-wanted _ (events_sound c.args.trace.now.records.now c.args.trace.now.accepted) _ _ _
+    (settled-wanted _ (events_sound c.args.trace.now.records.bytes.now c.args.trace.now.records.accepted) _ _ _
     c.requires.0 _
     (known (goal.at.advance-requires c).Start))
 

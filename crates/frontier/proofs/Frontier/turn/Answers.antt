@@ -16,24 +16,24 @@ use Rattle.frontier.proofs.Frontier.turn.Goals.{After-begin-end, In-loop-f}
 -- The turn at its beginning.
 begun : (c : goal.After-begin-end) → let s =
     c in
-    Turning (decode_all s.args.trace.now.records.now) (set s.args.self.now.front s.args.t (get_or
+    Turning (decode_all s.args.trace.now.records.bytes.now) (set s.args.self.now.front s.args.t (get_or
     s.args.want.now s.args.t 0))
     s.args.want.now c.begin-end.new.want s.args.self.now.latest s.args.t
     (get_or s.args.self.now.front s.args.t 0) c.begin-end.result (get_or s.args.want.now s.args.t 0)
 begun c =
-    turning_begin _ (events_sound c.args.trace.now.records.now c.args.trace.now.accepted) _ _ _ _
+    turning_begin _ (events_sound c.args.trace.now.records.bytes.now c.args.trace.now.records.accepted) _ _ _ _
     c.requires.0 c.requires.1
     c.requires.2
     c.begin-end.ensures.0 c.begin-end.ensures.1
 
 -- The event to be visited,
 event : (c : goal.In-loop-f) → (1 ≤ c.loop-f.f)
-    × (c.loop-f.f ≤ length (decode_all c.args.trace.now.records.now))
+    × (c.loop-f.f ≤ length (decode_all c.args.trace.now.records.bytes.now))
 event c = (c.loop-f.invariant.turning.more c.loop-f-test.true).3.event
 
 pub loop-f-init : goal.loop-f-init
 loop-f-init c = record {
-  turning = turning-again _ (events_sound c.args.trace.now.records.now c.args.trace.now.accepted)
+  turning = turning-again _ (events_sound c.args.trace.now.records.bytes.now c.args.trace.now.records.accepted)
       (begun (goal.at.loop-f-init c).After-begin-end);
   front_is = refl;
 }
@@ -41,16 +41,16 @@ loop-f-init c = record {
 pub visit-requires : goal.visit-requires
 visit-requires c =
     let e = event (goal.at.visit-requires c).In-loop-f in
-    (e.0, omega (arith, e, decode_all-length c.args.trace.now.records.now))
+    (e.0, omega (arith, e, decode_all-length c.args.trace.now.records.bytes.now))
 
 pub predecessor-f-requires : goal.predecessor-f-requires
 predecessor-f-requires c =
     let e = event (goal.at.predecessor-f-requires c).In-loop-f in
-    (e.0, omega (arith, e, decode_all-length c.args.trace.now.records.now))
+    (e.0, omega (arith, e, decode_all-length c.args.trace.now.records.bytes.now))
 
 pub loop-f-smaller : goal.loop-f-smaller
 loop-f-smaller c =
-    let low = predecessor_below (decode_all c.args.trace.now.records.now) c.loop-f.f in
+    let low = predecessor_below (decode_all c.args.trace.now.records.bytes.now) c.loop-f.f in
     omega (arith, c.predecessor-f.ensures, low, event (goal.at.loop-f-smaller c).In-loop-f)
 
 pub loop-f-preserved : goal.loop-f-preserved
@@ -59,7 +59,7 @@ loop-f-preserved c =
     let k = c.loop-f.invariant in
     record {
       turning = rw (c.predecessor-f.ensures, v.wanted, v.latest)
-          (turning-step _ (events_sound c.args.trace.now.records.now c.args.trace.now.accepted) _ _ _ _ _ _
+          (turning-step _ (events_sound c.args.trace.now.records.bytes.now c.args.trace.now.records.accepted) _ _ _ _ _ _
           _ _
           k.turning c.loop-f-test.true);
       front_is = k.front_is;
@@ -69,5 +69,5 @@ pub returns : goal.returns
 returns c =
     let k = c.loop-f.invariant in
     rw k.front_is
-    (turning_end _ (events_sound c.args.trace.now.records.now c.args.trace.now.accepted) c.args.self.now.front
+    (turning_end _ (events_sound c.args.trace.now.records.bytes.now c.args.trace.now.records.accepted) c.args.self.now.front
     (begun (goal.at.returns c).After-begin-end) k.turning c.loop-f-test.false refl)

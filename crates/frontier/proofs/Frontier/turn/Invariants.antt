@@ -7,7 +7,7 @@ use Rattle.frontier.proofs.Frontier.turn.Given as goal
 
 abbrev pub invariant-loop-f : goal.invariant-loop-f
 invariant-loop-f l = record {
-  turning : Turning (decode_all l.trace.records.now) l.initial.self.front l.initial.want l.want l.self.latest
+  turning : Turning (decode_all l.trace.records.bytes.now) l.initial.self.front l.initial.want l.want l.self.latest
       l.t l.old l.end l.f;
   front_is : l.self.front ≡ l.initial.self.front;
 }

@@ -17,18 +17,18 @@ use Rattle.listing.proofs.search.+descend_extend.Goals as goal
 use Rattle.listing.proofs.search.+descend_extend.Goals.{extend-In-Some}
 
 -- The event that follows is one of the records, and an acquire.
-event : (t : ℕ) (c : extend-In-Some t) → let b = c.args.search.now.links.now.trace.now.records.now in
+event : (t : ℕ) (c : extend-In-Some t) → let b = c.args.search.now.links.now.trace.now.records.bytes.now in
     (1 ≤ c.in-Some.e) × (2 * c.in-Some.e ≤ length b) × T (is_acquire (decode_all b) c.in-Some.e)
 event t c =
     let (d, y) = c.in-Some.ensures in
     let (one, low, high) = scanning_event c.loop-e.invariant.scanning d y in
-    let size = decode_all-length c.args.search.now.links.now.trace.now.records.now in
+    let size = decode_all-length c.args.search.now.links.now.trace.now.records.bytes.now in
     (one, omega arith, scanning_acquire c.loop-e.invariant.scanning d y)
 
 pub descend-closes-requires : goal.descend-closes-requires
 descend-closes-requires t c =
     let z = c.requires.traced in
-    let size = decode_all-length c.args.search.now.links.now.trace.now.records.now in
+    let size = decode_all-length c.args.search.now.links.now.trace.now.records.bytes.now in
     (z.first_event.0, omega (arith, z.first_event), z.last_event.0, omega (arith, z.last_event), z.acquires)
 
 pub extend-loop-e-init : goal.extend-loop-e-init
@@ -41,7 +41,7 @@ pub extend-following-requires : goal.extend-following-requires
 extend-following-requires t c =
     let o = c.requires.0.traced in
     let z = c.loop-e.invariant.scanning in
-    let size = decode_all-length c.args.search.now.links.now.trace.now.records.now in (
+    let size = decode_all-length c.args.search.now.links.now.trace.now.records.bytes.now in (
       rw z.same.0 o.last_event.0,
       omega (arith, o.last_event, z.same),
       omega (arith, z.high),

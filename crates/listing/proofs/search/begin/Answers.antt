@@ -13,7 +13,7 @@ use Rattle.listing.proofs.search.begin.Goals.{After-empty-frontier}
 
 -- The frontier of no events.
 start : (c : After-empty-frontier) → let frontier = c.empty-frontier.result in
-    Before (decode_all c.args.search.now.links.now.trace.now.records.now) [] frontier.front frontier.latest
+    Before (decode_all c.args.search.now.links.now.trace.now.records.bytes.now) [] frontier.front frontier.latest
 start c = rw c.empty-frontier.ensures (before-start _ _ _ refl refl)
 
 pub extend-requires : goal.extend-requires
@@ -24,9 +24,9 @@ pub extend-requires-2 : goal.extend-requires-2
 extend-requires-2 c =
     let search = c.args.search.now in
     let trace = search.links.now.trace.now in
-    let σ = decode_all trace.records.now in
-    let event = record-event trace.records.now search.first (c.requires.0, c.requires.1) in
-    let before = before-extend σ (events_sound trace.records.now trace.accepted) [] _ _ search.first _ _
+    let σ = decode_all trace.records.bytes.now in
+    let event = record-event trace.records.bytes.now search.first (c.requires.0, c.requires.1) in
+    let before = before-extend σ (events_sound trace.records.bytes.now trace.records.accepted) [] _ _ search.first _ _
     (start (goal.at.extend-requires-2 c).After-empty-frontier) event.0 event.1 c.extend.ensures in (
       open_start σ search.first search.size.events _ _ event.0 event.1 c.requires.2 search.size.permitted.0
           c.start-path.ensures.len c.start-path.ensures.chain before,

@@ -15,7 +15,7 @@ loop-a-init c = record { high = omega arith; taken = taken_none c.none-found.ens
 
 pub link-requires : goal.link-requires
 link-requires c =
-    omega (arith, c.loop-a.invariant.high, decode_all-length c.args.links.now.trace.now.records.now)
+    omega (arith, c.loop-a.invariant.high, decode_all-length c.args.links.now.trace.now.records.bytes.now)
 
 pub search_first-requires : goal.search_first-requires
 search_first-requires c =
@@ -23,7 +23,7 @@ search_first-requires c =
     let e = y.passes d in (
       c.leads-lead.ensures,
       omega (arith, e.0),
-      omega (arith, e.1, decode_all-length c.args.links.now.trace.now.records.now),
+      omega (arith, e.1, decode_all-length c.args.links.now.trace.now.records.bytes.now),
       nested_acquire _ c.in-Some.a e.2,
     )
 

@@ -18,25 +18,25 @@ use Rattle.pruning.proofs.Links.following.Goals.{After-object-l}
 
 -- What is not near does not follow.
 far : (c : After-object-l) → let a = c.args in
-    let σ = decode_all a.self.now.trace.now.records.now in (f : ℕ)
+    let σ = decode_all a.self.now.trace.now.records.bytes.now in (f : ℕ)
     → is_near σ a.self.now.blocks c.object-l.result f ≡ false
     → fits (signature σ) (of_events [] a.chain.now) f ≡ false
 far c f =
     let a = c.args in
-    near_fits (decode_all a.self.now.trace.now.records.now) a.self.now.blocks a.self.now.marked
+    near_fits (decode_all a.self.now.trace.now.records.bytes.now) a.self.now.blocks a.self.now.marked
     (of_events [] a.chain.now) c.object-l.result f c.object-l.ensures.1
 
 pub loop-x-init : goal.loop-x-init
 loop-x-init c =
     walked-start _ _ c.args.e
-    (omega (arith, c.requires.2, decode_all-length c.args.self.now.trace.now.records.now))
+    (omega (arith, c.requires.2, decode_all-length c.args.self.now.trace.now.records.bytes.now))
 
 pub hop-requires : goal.hop-requires
 hop-requires c =
     let trace = c.args.self.now.trace.now in
-    let b = trace.records.now in (
+    let b = trace.records.bytes.now in (
       rw c.object-l.ensures.1
-          (acquire_lt (decode_all b) (events_sound b trace.accepted) c.args.chain.now.last c.requires.3),
+          (acquire_lt (decode_all b) (events_sound b trace.records.accepted) c.args.chain.now.last c.requires.3),
       omega (arith, c.loop-x.invariant.high, decode_all-length b),
     )
 
@@ -44,7 +44,7 @@ pub follows-requires : goal.follows-requires
 follows-requires c =
     let (d, y) = c.in-Some.ensures in
     let event = y.passes d in
-    let size = decode_all-length c.args.self.now.trace.now.records.now in
+    let size = decode_all-length c.args.self.now.trace.now.records.bytes.now in
     (c.requires.0, c.requires.1, c.requires.3, omega (arith, event.0), omega (arith, event.1))
 
 pub returns-then-follows : goal.returns-then-follows

@@ -10,8 +10,8 @@ use Rattle.pruning.proofs.Links.following.Given as goal
 
 abbrev pub invariant-loop-x : goal.invariant-loop-x
 invariant-loop-x l =
-    Walked (fits (signature (decode_all l.self.trace.now.records.now)) (of_events [] l.chain))
-    (length (decode_all l.self.trace.now.records.now)) l.e l.at
+    Walked (fits (signature (decode_all l.self.trace.now.records.bytes.now)) (of_events [] l.chain))
+    (length (decode_all l.self.trace.now.records.bytes.now)) l.e l.at
 
 abbrev pub decreases-loop-x : goal.decreases-loop-x
-decreases-loop-x l = length (decode_all l.self.trace.now.records.now) - l.at
+decreases-loop-x l = length (decode_all l.self.trace.now.records.bytes.now) - l.at

@@ -8,8 +8,8 @@ use Rattle.pruning.proofs.Links.hop.Given as goal
 
 abbrev pub invariant-loop-x : goal.invariant-loop-x
 invariant-loop-x l =
-    Walked (is_near (decode_all l.self.trace.now.records.now) l.self.blocks l.l)
-    (length (decode_all l.self.trace.now.records.now)) l.e l.at
+    Walked (is_near (decode_all l.self.trace.now.records.bytes.now) l.self.blocks l.l)
+    (length (decode_all l.self.trace.now.records.bytes.now)) l.e l.at
 
 abbrev pub decreases-loop-x : goal.decreases-loop-x
-decreases-loop-x l = length (decode_all l.self.trace.now.records.now) - l.at
+decreases-loop-x l = length (decode_all l.self.trace.now.records.bytes.now) - l.at

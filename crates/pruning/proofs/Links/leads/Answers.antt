@@ -13,19 +13,19 @@ use Rattle.pruning.proofs.Links.leads.Goals as goal
 pub loop-e-init : goal.loop-e-init
 loop-e-init c =
     let a = c.args in
-    let b = a.self.now.trace.now.records.now in (
+    let b = a.self.now.trace.now.records.bytes.now in (
       omega (arith, c.requires, decode_all-length b),
       led-start (decode_all b) a.a (number_of a.t) a.guards _ (length-replicate {A = ℕ} 64 0),
     )
 
 pub link-requires : goal.link-requires
 link-requires c =
-    omega (arith, c.loop-e.invariant.0, decode_all-length c.args.self.now.trace.now.records.now)
+    omega (arith, c.loop-e.invariant.0, decode_all-length c.args.self.now.trace.now.records.bytes.now)
 
 pub note_lead-requires : goal.note_lead-requires
 note_lead-requires c =
     let a = c.args in
-    let b = a.self.now.trace.now.records.now in
+    let b = a.self.now.trace.now.records.bytes.now in
     let l = c.loop-e in
     let (d, y) = c.in-Some.ensures in
     let e = y.passes d in
@@ -40,5 +40,5 @@ pub returns : goal.returns
 returns c =
     let a = c.args in
     let l = c.loop-e in
-    led_end (decode_all a.self.now.trace.now.records.now) a.a (number_of a.t) a.guards l.lead l.at
+    led_end (decode_all a.self.now.trace.now.records.bytes.now) a.a (number_of a.t) a.guards l.lead l.at
     l.invariant.1 c.in_default.ensures

@@ -9,8 +9,8 @@ use Rattle.pruning.proofs.Links.leads.Given as goal
 
 abbrev pub invariant-loop-e : goal.invariant-loop-e
 invariant-loop-e l =
-    (l.at ≤ length (decode_all l.self.trace.now.records.now))
-    × Led (decode_all l.self.trace.now.records.now) l.a (l.at + 1) (number_of l.t) l.guards l.lead
+    (l.at ≤ length (decode_all l.self.trace.now.records.bytes.now))
+    × Led (decode_all l.self.trace.now.records.bytes.now) l.a (l.at + 1) (number_of l.t) l.guards l.lead
 
 abbrev pub decreases-loop-e : goal.decreases-loop-e
-decreases-loop-e l = length (decode_all l.self.trace.now.records.now) - l.at
+decreases-loop-e l = length (decode_all l.self.trace.now.records.bytes.now) - l.at

@@ -7,6 +7,6 @@ use Rattle.pruning.proofs.Links.link.Goals as goal
 
 pub returns : goal.returns
 returns c =
-    let b = c.args.self.now.trace.now.records.now in
+    let b = c.args.self.now.trace.now.records.bytes.now in
     linked_earliest (decode_all b) c.args.self.now.next c.args.self.now.linked c.args.e
     (omega (arith, c.requires, decode_all-length b)) _ c.linked.ensures

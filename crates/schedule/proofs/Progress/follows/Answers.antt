@@ -21,22 +21,22 @@ use Rattle.schedule.proofs.Progress.follows.Goals.{After-operation, After-matchi
 
 -- The number is that of an event: its record is there,
 recorded : (c : goal.Else-len-at) → let a = c.args in
-    (1 ≤ a.e) × (2 * a.e ≤ length a.trace.now.records.now)
+    (1 ≤ a.e) × (2 * a.e ≤ length a.trace.now.records.bytes.now)
 recorded c = omega (arith, c.if-e-eq0.false, c.if-len-at.false, c.len.ensures)
 
 -- and it is one of the trace.
 inside : (c : goal.Else-len-at) → let a = c.args in
-    (1 ≤ a.e) × (a.e ≤ length (decode_all a.trace.now.records.now))
+    (1 ≤ a.e) × (a.e ≤ length (decode_all a.trace.now.records.bytes.now))
 inside c = record-event _ _ (recorded c)
 
 -- The event comes next in its task; its operation and mark.
 unpacked : (c : goal.After-operation) (op m : ℕ)
-    → op ≡ (at (decode_all c.args.trace.now.records.now) c.args.e).op
-    → m ≡ marked (decode_all c.args.trace.now.records.now) c.args.e
-    → Asked (decode_all c.args.trace.now.records.now) c.args.self.now c.args.e op m
+    → op ≡ (at (decode_all c.args.trace.now.records.bytes.now) c.args.e).op
+    → m ≡ marked (decode_all c.args.trace.now.records.bytes.now) c.args.e
+    → Asked (decode_all c.args.trace.now.records.bytes.now) c.args.self.now c.args.e op m
 unpacked c op m is mark =
     let (h, k) = inside (goal.at.After-operation c).Else-len-at in record {
-      sound = events_sound c.args.trace.now.records.now c.args.trace.now.accepted;
+      sound = events_sound c.args.trace.now.records.bytes.now c.args.trace.now.records.accepted;
       inside = (h, k);
       next = sym c.is_next.ensures ∙ c.if-not-is_next.false;
       mark = record { event = h; op_is = is; mark_is = mark };
@@ -44,7 +44,7 @@ unpacked c op m is mark =
 
 -- An acquire, with its mark.
 acquire : (c : goal.After-matching)
-    → Asked (decode_all c.args.trace.now.records.now) c.args.self.now c.args.e 2 c.matching.result
+    → Asked (decode_all c.args.trace.now.records.bytes.now) c.args.self.now c.args.e 2 c.matching.result
 acquire c = unpacked (goal.at.After-matching c).After-operation 2 _ c.in-Acquire.ensures c.matching.ensures
 
 pub returns-then-e-eq0 : goal.returns-then-e-eq0
@@ -57,7 +57,7 @@ returns-then-len-at c = λ before z.
 pub returns-then-not-is_next : goal.returns-then-not-is_next
 returns-then-not-is_next c = λ before z.
     not-next _ before _ z c.args.e (inside (goal.at.returns-then-not-is_next c).Else-len-at)
-    (events_sound c.args.trace.now.records.now c.args.trace.now.accepted)
+    (events_sound c.args.trace.now.records.bytes.now c.args.trace.now.records.accepted)
     (sym c.is_next.ensures ∙ c.if-not-is_next.true)
 
 pub returns-in-Read : goal.returns-in-Read
@@ -67,7 +67,7 @@ returns-in-Read c =
 
 pub is_ready-requires : goal.is_ready-requires
 is_ready-requires c =
-    awaited_in c.args.trace.now.records.now c.args.e c.awaited-in_default.ensures
+    awaited_in c.args.trace.now.records.bytes.now c.args.e c.awaited-in_default.ensures
     (recorded (goal.at.is_ready-requires c).Else-len-at).1
 
 pub returns-in_default : goal.returns-in_default

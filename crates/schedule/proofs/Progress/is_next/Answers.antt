@@ -15,7 +15,7 @@ returns-then-own-ne0 c =
 
 pub is_listed-requires : goal.is_listed-requires
 is_listed-requires c =
-    predecessor_in c.args.trace.now.records.now c.args.e c.predecessor-before.ensures c.requires.1
+    predecessor_in c.args.trace.now.records.bytes.now c.args.e c.predecessor-before.ensures c.requires.1
 
 pub returns : goal.returns
 returns c =

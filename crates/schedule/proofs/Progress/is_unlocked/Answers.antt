@@ -15,7 +15,7 @@ returns-then-e-latest c =
 
 pub is_listed-requires : goal.is_listed-requires
 is_listed-requires c =
-    matching_in c.args.trace.now.records.now _ _ c.matching.ensures
+    matching_in c.args.trace.now.records.bytes.now _ _ c.matching.ensures
     (rw (← c.object.ensures.1) at c.requires.3)
 
 pub returns : goal.returns

@@ -9,7 +9,7 @@ use Rattle.schedule.proofs.Progress.leaves_next.Goals as goal
 pub is_next-requires : goal.is_next-requires
 is_next-requires c =
     let p = c.args.pattern.now in
-    let (h, k, j) = listed-event c.args.trace.now.records.now (numbers p) c.loop-i.i c.requires
+    let (h, k, j) = listed-event c.args.trace.now.records.bytes.now (numbers p) c.loop-i.i c.requires
     (numbers_inside p c.loop-i-test.true) c.number.ensures in
     (h, j)
 

@@ -7,4 +7,4 @@ use Rattle.schedule.specs.Next.{is_next}
 use Rattle.schedule.proofs.Progress.leaves_next.Given as goal
 
 abbrev pub invariant-loop-i : goal.invariant-loop-i
-invariant-loop-i l = Passing (is_next (decode_all l.trace.records.now) l.self.last) (numbers l.pattern) l.i
+invariant-loop-i l = Passing (is_next (decode_all l.trace.records.bytes.now) l.self.last) (numbers l.pattern) l.i

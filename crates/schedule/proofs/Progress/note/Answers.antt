@@ -19,11 +19,11 @@ use Rattle.schedule.proofs.Progress.note.Goals.{After-object-object, After-match
 
 -- The event as it was unpacked, and its mark.
 unpacked : (c : goal.After-object-object) (o : Op) (m : ℕ)
-    → code o ≡ (at (decode_all c.args.trace.now.records.now) c.args.e).op
-    → m ≡ marked (decode_all c.args.trace.now.records.now) c.args.e
-    → Noted (decode_all c.args.trace.now.records.now) c.args.e (code o) c.task.result c.object-object.result m
+    → code o ≡ (at (decode_all c.args.trace.now.records.bytes.now) c.args.e).op
+    → m ≡ marked (decode_all c.args.trace.now.records.bytes.now) c.args.e
+    → Noted (decode_all c.args.trace.now.records.bytes.now) c.args.e (code o) c.task.result c.object-object.result m
 unpacked c o m is mark = record {
-  sound = events_sound c.args.trace.now.records.now c.args.trace.now.accepted;
+  sound = events_sound c.args.trace.now.records.bytes.now c.args.trace.now.records.accepted;
   event = record {
     op_is = (code_lt o, is);
     task_is = c.task.ensures;
@@ -34,7 +34,7 @@ unpacked c o m is mark = record {
 
 -- An acquire, with its mark.
 acquire : (c : goal.After-matching)
-    → Noted (decode_all c.args.trace.now.records.now) c.args.e 2 c.task.result c.object-object.result
+    → Noted (decode_all c.args.trace.now.records.bytes.now) c.args.e 2 c.task.result c.object-object.result
     c.matching.result
 acquire c =
     unpacked (goal.at.After-matching c).After-object-object Acquire _ c.in-Acquire.ensures c.matching.ensures

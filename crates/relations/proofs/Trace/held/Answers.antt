@@ -1,0 +1,8 @@
+-- `relations::Trace::held` meets its contract: the row has its held locks. Assumes nothing.
+use Rattle.laws.proofs.Trace.{record-event}
+use Rattle.relations.proofs.Trace.held.Goals as goal
+
+pub returns : goal.returns
+returns c =
+    let trace = c.args.self.now in
+    trace.tabled.held_at c.args.e (record-event trace.records.bytes.now c.args.e c.requires)
