@@ -14,25 +14,25 @@ use Rattle.std.specs.Prelude.{Ok, Err}
 use Rattle.model.specs.declared.Question.{Question}
 use Rattle.model.specs.declared.Question.TheVariants.{Written}
 use Rattle.model.specs.Refused.{number}
-use Rattle.model.specs.Trace.{Trace, tasks, locks, sync_objects, variables, at, task, object}
+use Rattle.model.specs.Trace.{Trace, locks, variables, at, task, object}
 use Rattle.model.specs.Trace.{is_write}
-use Rattle.model.specs.Tasks.{is_start, is_join, target}
+use Rattle.model.specs.Tasks.{is_start, is_join}
 use Rattle.model.specs.Relations.{holds, writer}
-use Rattle.model.specs.WellFormed.{is_free, is_new}
+use Rattle.model.specs.WellFormed.{is_free}
 use Rattle.laws.specs.Walked.{Holders, LatestEvents}
 use Rattle.laws.proofs.Numbers.{number_positive}
 use Rattle.laws.proofs.LatestEvents.{latest-set, latest_keep, latest-writer}
 use Rattle.laws.proofs.Kept.{holders_access}
 use Rattle.laws.proofs.Operations.{is_read_op, is_write_op, is_start-none, is_join-none, accesses_is}
 use Rattle.laws.proofs.Operations.{is_start_lock, is_join_lock, tasks_is}
-use Rattle.laws.proofs.Faults.{fault_acquire, fault_release, fault-start, fault-join}
+use Rattle.laws.proofs.Faults.{fault_acquire, fault_release}
 use Rattle.laws.proofs.Faults.{fault_write, fault_read}
 use Rattle.recording.specs.declared.Past.{Past}
 use Rattle.recording.specs.declared.Locks.{Locks}
 use Rattle.recording.specs.declared.Op.{Op}
 use Rattle.recording.specs.declared.Op.TheVariants.{Read, Write, Acquire, Release}
 use Rattle.recording.specs.declared.Asked.TheVariants.{Passed}
-use Rattle.recording.specs.Asked.{code, Done, Passes, Plainly}
+use Rattle.recording.specs.Asked.{code, Done, Plainly}
 
 -- ---- numbers of questions
 
@@ -61,6 +61,12 @@ code_release Read h d = absurd (omega (arith, h))
 code_release Write h d = absurd (omega (arith, h))
 code_release Acquire h d = absurd (d refl)
 code_release Release h d = refl
+
+pub code_last : (o : Op) → o ≢ Read → o ≢ Write → o ≢ Acquire → code o ≡ 3
+code_last Read r w a = absurd (r refl)
+code_last Write r w a = absurd (w refl)
+code_last Acquire r w a = absurd (a refl)
+code_last Release r w a = refl
 
 -- The operation with a number.
 op_of : ℕ → Op
@@ -100,12 +106,6 @@ module _ {σ : Trace} {e op o : ℕ} {past : Past}
   unwritten d =
       latest_keep (is_write σ) (object σ) e past.writes z.written (is_write_op σ e is_op ∙ ne_eqb op 1 d)
 
-  unstarted : is_start σ e ≡ false → LatestEvents (is_start σ) (target σ) (suc e) past.starts
-  unstarted = latest_keep (is_start σ) (target σ) e past.starts z.started
-
-  unjoined : is_join σ e ≡ false → LatestEvents (is_join σ) (target σ) (suc e) past.joins
-  unjoined = latest_keep (is_join σ) (target σ) e past.joins z.joined
-
   -- ---- reads and writes
 
   module _ (a : op < 2) where
@@ -113,7 +113,7 @@ module _ {σ : Trace} {e op o : ℕ} {past : Past}
     access_forks : (is_start σ e || is_join σ e) ≡ false
     access_forks = rw (is_start-none σ e is_op (omega arith), is_join-none σ e is_op (omega arith))
 
-    -- It leaves holders, starts and joins.
+    -- It leaves the holders.
     accessed : (w : List ℕ) → length w ≡ variables → LatestEvents (is_write σ) (object σ) (suc e) w
         → Done σ (e + 1) (record past { writes = w })
     accessed w long written =
@@ -122,10 +122,6 @@ module _ {σ : Trace} {e op o : ℕ} {past : Past}
           holder = holders_access no-enter no-leave z.holder;
           writes_long = long;
           written = written;
-          starts_long = z.starts_long;
-          started = unstarted (is_start-none σ e is_op (omega arith));
-          joins_long = z.joins_long;
-          joined = unjoined (is_join-none σ e is_op (omega arith));
         })
 
   -- The latest write of a read's variable.
@@ -142,10 +138,8 @@ module _ {σ : Trace} {e op o : ℕ} {past : Past}
   pub read_passed : op ≡ 0 → get_or past.writes o 0 ≢ 0 → Plainly σ e (Ok Passed) past
   read_passed a n = (
     access_forks (omega arith),
-    (
-      fault_read σ e is_op a ∙ rw (ne_eqb (writer σ e) 0 (λ q. n (last_write a ∙ q))),
-      accessed (omega arith) past.writes z.writes_long (unwritten (omega arith)),
-    ),
+    fault_read σ e is_op a ∙ rw (ne_eqb (writer σ e) 0 (λ q. n (last_write a ∙ q))),
+    accessed (omega arith) past.writes z.writes_long (unwritten (omega arith)),
   )
 
   -- A write.
@@ -153,13 +147,11 @@ module _ {σ : Trace} {e op o : ℕ} {past : Past}
   written a =
       rw is-object (
         access_forks (omega arith),
-        (
-          fault_write σ e is_op a,
-          accessed (omega arith) (set past.writes (object σ e) e)
-              (length-set past.writes (object σ e) e ∙ z.writes_long)
-              (latest-set (is_write σ) (object σ) e past.writes z.written write
-              (omega (arith, z.writes_long, u.object_is))),
-        ),
+        fault_write σ e is_op a,
+        accessed (omega arith) (set past.writes (object σ e) e)
+            (length-set past.writes (object σ e) e ∙ z.writes_long)
+            (latest-set (is_write σ) (object σ) e past.writes z.written write
+            (omega (arith, z.writes_long, u.object_is))),
       )
     where
       write : T (is_write σ e)
@@ -182,10 +174,6 @@ module _ {σ : Trace} {e op o : ℕ} {past : Past}
           holder = rw (add-one e) at y;
           writes_long = z.writes_long;
           written = unwritten n;
-          starts_long = z.starts_long;
-          started = unstarted (is_start_lock σ e is_op lock);
-          joins_long = z.joins_long;
-          joined = unjoined (is_join_lock σ e is_op lock);
         })
 
     -- An acquire that question 5 refuses,
@@ -198,10 +186,8 @@ module _ {σ : Trace} {e op o : ℕ} {past : Past}
         → Holders σ (e + 1) held.holders held.depths → Plainly σ e (Ok Passed) (record past { locks = held })
     acquired a held y k = (
       lock_forks,
-      (
-        fault_acquire σ e is_op a lock ∙ passing (is_free σ e) _ _ (omega arith) (sym y),
-        locked (omega arith) held k,
-      ),
+      fault_acquire σ e is_op a lock ∙ passing (is_free σ e) _ _ (omega arith) (sym y),
+      locked (omega arith) held k,
     )
 
     -- A release that question 6 refuses,
@@ -215,48 +201,18 @@ module _ {σ : Trace} {e op o : ℕ} {past : Past}
         → Holders σ (e + 1) held.holders held.depths → Plainly σ e (Ok Passed) (record past { locks = held })
     released a held y k = (
       lock_forks,
-      (
-        fault_release σ e is_op a lock
-            ∙ passing (holds σ e (task σ e) (object σ e)) _ _ (omega arith) (sym y),
-        locked (omega arith) held k,
-      ),
+      fault_release σ e is_op a lock ∙ passing (holds σ e (task σ e) (object σ e)) _ _ (omega arith) (sym y),
+      locked (omega arith) held k,
     )
 
   -- ---- starts and joins
 
-  module _ (beyond : locks ≤ object σ e) (small : object σ e < sync_objects) where
-    unlocked : Holders σ (suc e) past.locks.holders past.locks.depths
-    unlocked =
-        let (no-enter, no-leave) = tasks_is σ e is_op beyond in holders_access no-enter no-leave z.holder
-
-    -- A start that question 15 passes.
-    pub started : op ≡ 2 → is_new σ e ≡ true → (ss : List ℕ) → length ss ≡ tasks
-        → LatestEvents (is_start σ) (target σ) (suc e) ss → Passes σ e (record past { starts = ss })
-    started a n ss long y = (
-      fault-start σ e is_op a beyond small ∙ rw n,
+  -- A record that names no lock leaves locks and variables.
+  pub unlocked : locks ≤ object σ e → 2 ≤ op → Done σ (e + 1) past
+  unlocked beyond h =
+      let (no-enter, no-leave) = tasks_is σ e is_op beyond in
       rw (add-one e) (record {
-        holder = unlocked;
+        holder = holders_access no-enter no-leave z.holder;
         writes_long = z.writes_long;
         written = unwritten (omega arith);
-        starts_long = long;
-        started = y;
-        joins_long = z.joins_long;
-        joined = unjoined (is_join-none σ e is_op (omega arith));
-      }),
-    )
-
-    -- A join of another task than the own.
-    pub joined : op ≡ 3 → target σ e ≢ task σ e → (js : List ℕ) → length js ≡ tasks
-        → LatestEvents (is_join σ) (target σ) (suc e) js → Passes σ e (record past { joins = js })
-    joined a d js long y = (
-      fault-join σ e is_op a beyond small ∙ rw (ne_eqb (target σ e) (task σ e) d),
-      rw (add-one e) (record {
-        holder = unlocked;
-        writes_long = z.writes_long;
-        written = unwritten (omega arith);
-        starts_long = z.starts_long;
-        started = unstarted (is_start-none σ e is_op (omega arith));
-        joins_long = long;
-        joined = y;
-      }),
-    )
+      })

@@ -2,22 +2,24 @@
 // `records` is the part of a recording after its header of two bytes, wherever it stands.
 #![tactic(auto)]
 
-ghost use Rattle.std.specs.Prelude.{◌+◌, ◌*◌, ◌-◌, ◌/◌, ◌<◌, ◌≤◌, ◌≡◌, false, true, cond, ◌||◌, ◌≢◌, T, eqb};
-ghost use Rattle.std.specs.Prelude.{length, get_or, OnOk, IfOk};
+ghost use Rattle.std.specs.Prelude.{◌+◌, ◌*◌, ◌<◌, ◌≤◌, ◌≡◌, cond, ◌&&◌, T, eqb, length, get_or};
+ghost use Rattle.std.specs.Prelude.{MatchOption, OnOk, IfOk};
 ghost use Rattle.std.proofs.lemmas.List.Edits.{sets};
 ghost use Rattle.model.specs.Refused.{refusal};
 ghost use Rattle.model.specs.Answers.{fault_of, outcome_of};
 ghost use Rattle.model.specs.Lists.{has_bit};
 ghost use Rattle.model.specs.Bytes.{numbers, two_bytes};
-ghost use Rattle.model.specs.Trace.{tasks, locks, sync_objects, variables, at, task, object, enters, leaves};
-ghost use Rattle.model.specs.Tasks.{target, is_start, is_join};
+ghost use Rattle.model.specs.Trace.{Trace, tasks, locks, sync_objects, variables, at, task, object};
+ghost use Rattle.model.specs.Trace.{enters, leaves};
+ghost use Rattle.model.specs.Tasks.{is_start, is_join};
 ghost use Rattle.model.specs.Recording.{decode_all, event_count, trace};
 ghost use Rattle.model.specs.Relations.{holds};
-ghost use Rattle.model.specs.WellFormed.{is_free, is_new, is_over, fault};
+ghost use Rattle.model.specs.WellFormed.{is_free, fault};
 ghost use Rattle.model.specs.Calls.Check.{check_events, check};
 ghost use Rattle.laws.specs.Sizes.{records_length, table_length};
-ghost use Rattle.laws.specs.Walked.{Holders, LatestEvents};
-ghost use Rattle.recording.specs.Asked.{code, Done, Answered, Plainly, Plain, PlainTo, Asking};
+ghost use Rattle.laws.specs.Walked.{Holders};
+ghost use Rattle.recording.specs.Asked.{code, Done, IsTarget, IsLockless, Lives, AllDone, Answered, Plainly};
+ghost use Rattle.recording.specs.Asked.{Unforked, PlainTo, Asking};
 
 use model::{Question, Refusal};
 
@@ -39,6 +41,13 @@ pub struct Records<'a> {
     ghost accepted: { (check_events (decode_all bytes.now)).refusal ≡ 0 },
 }
 
+// The records of a recording, as many as its header says, before they are asked about.
+#[derive(Clone, Copy)]
+struct Unasked<'a> {
+    bytes: &'a [u8],
+    ghost short: { length bytes.now ≤ records_length },
+}
+
 // Who holds each lock: the task plus 1, or 0, and how deep it is in it, or 1 without a holder.
 #[derive(Drop)]
 struct Locks {
@@ -46,14 +55,26 @@ struct Locks {
     depths: [u16; 64],
 }
 
-// What earlier events have done: to the locks, of each variable the latest write, and of each task its start
-// and the latest join.
+// What earlier accesses and records of locks have done: to the locks, and of each variable the latest write.
 #[derive(Drop)]
 struct Past {
     locks: Locks,
     writes: [u16; 1024],
-    starts: [u16; 16],
-    joins: [u16; 16],
+}
+
+// What earlier events have done to a task: its start, the latest join of it and its latest event, or 0.
+#[derive(Clone, Copy)]
+struct Life {
+    start: u16,
+    join: u16,
+    latest: u16,
+}
+
+// What earlier events have done, where starts and joins may be among them: also to each task.
+#[derive(Drop)]
+struct Forked {
+    past: Past,
+    lives: [Life; 16],
 }
 
 // What an event that no question refuses is found to be: it is asked no more, or its record, an acquire's or
@@ -85,10 +106,10 @@ pub fn operation(records: &[u8], e: usize) -> Op
     requires { (1 ≤ e) × (2 * e ≤ length records.now) }
     ensures { code result ≡ (at (decode_all records.now) e).op }
 {
-    match records[2 * (e - 1)] >> 6 {
-        0 => Op::Read,
-        1 => Op::Write,
-        2 => Op::Acquire,
+    match records[2 * (e - 1)] {
+        0..=63 => Op::Read,
+        64..=127 => Op::Write,
+        128..=191 => Op::Acquire,
         _ => Op::Release,
     }
 }
@@ -118,13 +139,17 @@ fn lock(records: &[u8], e: usize) -> usize
     object(records, e) as usize
 }
 
-// The task that event e starts or joins: what its object stands for.
-fn target(records: &[u8], e: usize) -> usize
-    requires { (1 ≤ e) × (2 * e ≤ length records.now) × (locks ≤ object (decode_all records.now) e)
-        × (object (decode_all records.now) e < sync_objects) }
-    ensures { (result < tasks) × (result ≡ target (decode_all records.now) e) }
+// The task that event e starts or joins: what its object stands for, if it does.
+fn target(records: &[u8], e: usize) -> Option<usize>
+    requires { (1 ≤ e) × (2 * e ≤ length records.now) × (locks ≤ object (decode_all records.now) e) }
+    ensures { MatchOption result (sync_objects ≤ object (decode_all records.now) e)
+        (IsTarget (decode_all records.now) e) }
 {
-    object(records, e) as usize - 64
+    let o = object(records, e) as usize;
+    if 80 <= o {
+        return None;
+    }
+    Some(o - 64)
 }
 
 // Lock l is in the mask.
@@ -138,16 +163,16 @@ pub fn in_mask(mask: u64, l: u64) -> bool
 impl Locks {
     // Puts question 5 to acquire e: its task is then the holder of its lock, one deeper. A depth is at most
     // e, so it fits.
-    fn enter(&mut self, records: &[u8], e: usize) -> Result<(), Question>
-        requires { (1 ≤ e) × (2 * e ≤ length records.now) × (e < table_length)
-            × T (enters (decode_all records.now) e)
-            × Holders (decode_all records.now) e self.old.holders self.old.depths }
-        ensures fault { fault_of result ≡ cond (is_free (decode_all records.now) e) 0 5 }
+    fn enter(&mut self, records: &Unasked, e: usize) -> Result<(), Question>
+        requires { (1 ≤ e) × (2 * e ≤ length records.now.bytes.now)
+            × T (enters (decode_all records.now.bytes.now) e)
+            × Holders (decode_all records.now.bytes.now) e self.old.holders self.old.depths }
+        ensures fault { fault_of result ≡ cond (is_free (decode_all records.now.bytes.now) e) 0 5 }
         ensures held { OnOk result
-            (Holders (decode_all records.now) (e + 1) self.new.holders self.new.depths) }
+            (Holders (decode_all records.now.bytes.now) (e + 1) self.new.holders self.new.depths) }
     {
-        let l = lock(records, e);
-        let own = task(records, e) + 1;
+        let l = lock(records.bytes, e);
+        let own = task(records.bytes, e) + 1;
         if self.holders[l] == 0 {
             self.holders[l] = own;
             return Ok(());
@@ -161,16 +186,17 @@ impl Locks {
 
     // Puts question 6 to release e: its task is then one less deep in its lock, and at depth 0 the holder no
     // more.
-    fn leave(&mut self, records: &[u8], e: usize) -> Result<(), Question>
-        requires { (1 ≤ e) × (2 * e ≤ length records.now) × T (leaves (decode_all records.now) e)
-            × Holders (decode_all records.now) e self.old.holders self.old.depths }
-        ensures fault { fault_of result ≡ cond (holds (decode_all records.now) e
-            (task (decode_all records.now) e) (object (decode_all records.now) e)) 0 6 }
+    fn leave(&mut self, records: &Unasked, e: usize) -> Result<(), Question>
+        requires { (1 ≤ e) × (2 * e ≤ length records.now.bytes.now)
+            × T (leaves (decode_all records.now.bytes.now) e)
+            × Holders (decode_all records.now.bytes.now) e self.old.holders self.old.depths }
+        ensures fault { fault_of result ≡ cond (holds (decode_all records.now.bytes.now) e
+            (task (decode_all records.now.bytes.now) e) (object (decode_all records.now.bytes.now) e)) 0 6 }
         ensures held { OnOk result
-            (Holders (decode_all records.now) (e + 1) self.new.holders self.new.depths) }
+            (Holders (decode_all records.now.bytes.now) (e + 1) self.new.holders self.new.depths) }
     {
-        let l = lock(records, e);
-        if self.holders[l] != task(records, e) + 1 {
+        let l = lock(records.bytes, e);
+        if self.holders[l] != task(records.bytes, e) + 1 {
             return Err(Question::LockHeld);
         }
         if self.depths[l] == 1 {
@@ -183,130 +209,55 @@ impl Locks {
 }
 
 impl Past {
+    // Before event 1 nothing is done.
+    fn new() -> Past
+        ensures { (σ : Trace) → Done σ 1 result }
+    {
+        Past {
+            locks: Locks {
+                holders: [0; 64],
+                depths: [1; 64],
+            },
+            writes: [0; 1024],
+        }
+    }
+
     // Puts questions 4 to 7 to event e where it is an access or names a lock; what it does is then done as
     // well. Otherwise it is found lockless, and nothing is done.
-    fn ask_plain(&mut self, records: &[u8], e: usize) -> Result<Asked, Question>
-        requires { (1 ≤ e) × (2 * e ≤ length records.now) × (e < table_length)
-            × Done (decode_all records.now) e self.old }
-        ensures { Plainly (decode_all records.now) e result self.new }
+    fn ask(&mut self, records: &Unasked, e: usize) -> Result<Asked, Question>
+        requires { (1 ≤ e) × (2 * e ≤ length records.now.bytes.now)
+            × Done (decode_all records.now.bytes.now) e self.old }
+        ensures { Plainly (decode_all records.now.bytes.now) e result self.new }
     {
-        let at = object(records, e) as usize;
-        match operation(records, e) {
+        let at = object(records.bytes, e) as usize;
+        match operation(records.bytes, e) {
             Op::Read => {
                 if self.writes[at] == 0 {
                     return Err(Question::Written);
                 }
             }
             Op::Write => self.writes[at] = e as u16,
-            Op::Acquire => {
+            op => {
                 if 64 <= at {
                     return Ok(Asked::Lockless);
                 }
-                self.locks.enter(records, e)?;
-            }
-            Op::Release => {
-                if 64 <= at {
-                    return Ok(Asked::Lockless);
+                match op {
+                    Op::Acquire => self.locks.enter(records, e)?,
+                    _ => self.locks.leave(records, e)?,
                 }
-                self.locks.leave(records, e)?;
             }
         }
         Ok(Asked::Passed)
     }
 
-    // The task that start e starts is new: not the start's own, and without a start, a join or an event.
-    fn is_new(&self, records: &[u8], e: usize, latest: &[u16; 16]) -> bool
-        requires { (1 ≤ e) × (2 * e ≤ length records.now)
-            × T (is_start (decode_all records.now) e) × (object (decode_all records.now) e < sync_objects)
-            × Done (decode_all records.now) e self.now
-            × LatestEvents (λ f. true) (task (decode_all records.now)) e latest.now }
-        ensures { result ≡ is_new (decode_all records.now) e }
-    {
-        let t = task(records, e) as usize;
-        let u = target(records, e);
-        (u != t) & (self.starts[u] == 0) & (self.joins[u] == 0) & (latest[u] == 0)
-    }
-
-    // Puts question 15 to start e, with the latest event of each task: e is then the start of its task.
-    fn start(&mut self, records: &[u8], e: usize, latest: &[u16; 16]) -> Result<(), Question>
-        requires { (1 ≤ e) × (2 * e ≤ length records.now) × (e < table_length)
-            × T (is_start (decode_all records.now) e) × (object (decode_all records.now) e < sync_objects)
-            × Done (decode_all records.now) e self.old
-            × LatestEvents (λ f. true) (task (decode_all records.now)) e latest.now }
-        ensures { Answered (decode_all records.now) e result self.new }
-    {
-        if !self.is_new(records, e, latest) {
-            return Err(Question::TaskNew);
-        }
-        self.starts[target(records, e)] = e as u16;
-        Ok(())
-    }
-
-    // Puts the first part of question 16 to join e, whether it joins its own task: e is then the latest join
-    // of the task that it joins.
-    fn join(&mut self, records: &[u8], e: usize) -> Result<(), Question>
-        requires { (1 ≤ e) × (2 * e ≤ length records.now) × (e < table_length)
-            × T (is_join (decode_all records.now) e) × (object (decode_all records.now) e < sync_objects)
-            × Done (decode_all records.now) e self.old }
-        ensures { Answered (decode_all records.now) e result self.new }
-    {
-        let t = task(records, e) as usize;
-        let u = target(records, e);
-        if u == t {
-            return Err(Question::TaskOpen);
-        }
-        self.joins[u] = e as u16;
-        Ok(())
-    }
-
-    // Puts questions 4 to 7 and 15, and of 16 whether a task joins itself, to event e: what it does is then
-    // done as well.
-    fn ask_object(&mut self, records: &[u8], e: usize, latest: &[u16; 16]) -> Result<(), Question>
-        requires { (1 ≤ e) × (2 * e ≤ length records.now) × (e < table_length)
-            × Done (decode_all records.now) e self.old
-            × LatestEvents (λ f. true) (task (decode_all records.now)) e latest.now }
-        ensures { Answered (decode_all records.now) e result self.new }
-    {
-        match self.ask_plain(records, e)? {
-            Asked::Passed => return Ok(()),
-            Asked::Lockless => {}
-        }
-        let op = operation(records, e);
-        if 80 <= object(records, e) {
-            return Err(Question::Object);
-        }
-        match op {
-            Op::Acquire => self.start(records, e, latest),
-            _ => self.join(records, e),
-        }
-    }
-
-    // Puts questions 4 to 7, 15 and 16 to event e: what it does is then done as well. That its task is over
-    // is asked last.
-    fn ask(&mut self, records: &[u8], e: usize, latest: &mut [u16; 16]) -> Result<(), Question>
-        requires { (1 ≤ e) × (2 * e ≤ length records.now) × (e < table_length)
-            × Asking (decode_all records.now) e self.old latest.old }
-        ensures fault { fault_of result ≡ fault (decode_all records.now) e }
-        ensures next { OnOk result (Asking (decode_all records.now) (e + 1) self.new latest.new) }
-    {
-        let t = task(records, e) as usize;
-        let over = self.joins[t];
-        self.ask_object(records, e, latest)?;
-        if over != 0 {
-            return Err(Question::TaskOpen);
-        }
-        latest[t] = e as u16;
-        Ok(())
-    }
-
     // Puts the questions to the events before the first start or join, of which no task is over: the first
     // event that is a start or a join or has no object, if any, before which this then stands.
-    fn check_plain(&mut self, records: &[u8]) -> Result<Option<usize>, Refusal>
-        requires { (length records.now ≤ records_length) × Done (decode_all records.now) 1 self.old }
-        ensures { PlainTo records.now result self.new }
+    fn check(&mut self, records: &Unasked) -> Result<Option<usize>, Refusal>
+        requires { Done (decode_all records.now.bytes.now) 1 self.old }
+        ensures { PlainTo records.now.bytes.now result self.new }
     {
-        for e in 1..records.len() / 2 + 1 {
-            match self.ask_plain(records, e) {
+        for e in 1..records.bytes.len() / 2 + 1 {
+            match self.ask(records, e) {
                 Ok(Asked::Passed) => {}
                 Ok(Asked::Lockless) => return Ok(Some(e)),
                 Err(question) => return Err(caused(question, e)),
@@ -314,17 +265,110 @@ impl Past {
         }
         Ok(None)
     }
+}
 
-    // Puts the questions to the events from event `from` on, which a start or a join may be among: the
-    // earliest event with a "no" decides.
-    fn check_forked(&mut self, records: &[u8], from: usize) -> Result<(), Refusal>
-        requires { (length records.now ≤ records_length) × (1 ≤ from) × (2 * from ≤ length records.now)
-            × Plain (decode_all records.now) from self.old }
-        ensures { outcome_of result ≡ check_events (decode_all records.now) }
+impl Life {
+    // Nothing is noted of the task.
+    fn is_blank(&self) -> bool
+        ensures { result ≡ (eqb self.now.start 0 && eqb self.now.join 0 && eqb self.now.latest 0) }
     {
-        let mut latest = latest_before(records, from);
-        for e in from..records.len() / 2 + 1 {
-            if let Err(question) = self.ask(records, e, &mut latest) {
+        (self.start == 0) & (self.join == 0) & (self.latest == 0)
+    }
+}
+
+impl Forked {
+    // Puts question 15 to start e of task u, which is new where it is not the start's own and nothing is
+    // noted of it: e is then its start.
+    fn start(&mut self, records: &Unasked, e: usize, u: usize) -> Result<(), Question>
+        requires { (1 ≤ e) × (2 * e ≤ length records.now.bytes.now)
+            × T (is_start (decode_all records.now.bytes.now) e)
+            × IsTarget (decode_all records.now.bytes.now) e u
+            × AllDone (decode_all records.now.bytes.now) e e self.old }
+        ensures { Answered (decode_all records.now.bytes.now) e result self.new }
+    {
+        let t = task(records.bytes, e) as usize;
+        let blank = self.lives[u].is_blank();
+        if u == t || !blank {
+            return Err(Question::TaskNew);
+        }
+        self.lives[u].start = e as u16;
+        Ok(())
+    }
+
+    // Puts the first part of question 16 to join e of task u, whether it joins its own task: e is then the
+    // latest join of u.
+    fn join(&mut self, records: &Unasked, e: usize, u: usize) -> Result<(), Question>
+        requires { (1 ≤ e) × (2 * e ≤ length records.now.bytes.now)
+            × T (is_join (decode_all records.now.bytes.now) e)
+            × IsTarget (decode_all records.now.bytes.now) e u
+            × AllDone (decode_all records.now.bytes.now) e e self.old }
+        ensures { Answered (decode_all records.now.bytes.now) e result self.new }
+    {
+        let t = task(records.bytes, e) as usize;
+        if u == t {
+            return Err(Question::TaskOpen);
+        }
+        self.lives[u].join = e as u16;
+        Ok(())
+    }
+
+    // Puts questions 4 and 15, and of 16 whether a task joins itself, to event e, whose record names no lock:
+    // what it does is then done as well.
+    fn ask_task(&mut self, records: &Unasked, e: usize) -> Result<(), Question>
+        requires { (1 ≤ e) × (2 * e ≤ length records.now.bytes.now)
+            × IsLockless (decode_all records.now.bytes.now) e
+            × AllDone (decode_all records.now.bytes.now) e e self.old }
+        ensures { Answered (decode_all records.now.bytes.now) e result self.new }
+    {
+        let op = operation(records.bytes, e);
+        match target(records.bytes, e) {
+            None => Err(Question::Object),
+            Some(u) => match op {
+                Op::Acquire => self.start(records, e, u),
+                _ => self.join(records, e, u),
+            },
+        }
+    }
+
+    // Puts questions 4 to 7 and 15, and of 16 whether a task joins itself, to event e: what it does is then
+    // done as well.
+    fn ask_object(&mut self, records: &Unasked, e: usize) -> Result<(), Question>
+        requires { (1 ≤ e) × (2 * e ≤ length records.now.bytes.now)
+            × AllDone (decode_all records.now.bytes.now) e e self.old }
+        ensures { Answered (decode_all records.now.bytes.now) e result self.new }
+    {
+        match self.past.ask(records, e)? {
+            Asked::Passed => Ok(()),
+            Asked::Lockless => self.ask_task(records, e),
+        }
+    }
+
+    // Puts questions 4 to 7, 15 and 16 to event e: what it does is then done as well. That its task is over
+    // is asked last.
+    fn ask(&mut self, records: &Unasked, e: usize) -> Result<(), Question>
+        requires { (1 ≤ e) × (2 * e ≤ length records.now.bytes.now)
+            × Asking (decode_all records.now.bytes.now) e self.old }
+        ensures fault { fault_of result ≡ fault (decode_all records.now.bytes.now) e }
+        ensures next { OnOk result (Asking (decode_all records.now.bytes.now) (e + 1) self.new) }
+    {
+        let t = task(records.bytes, e) as usize;
+        let over = self.lives[t].join;
+        self.ask_object(records, e)?;
+        if over != 0 {
+            return Err(Question::TaskOpen);
+        }
+        self.lives[t].latest = e as u16;
+        Ok(())
+    }
+
+    // Puts the questions to the events from event `from` on: the earliest event with a "no" decides.
+    fn check(&mut self, records: &Unasked, from: usize) -> Result<(), Refusal>
+        requires { (1 ≤ from) × (2 * from ≤ length records.now.bytes.now)
+            × Asking (decode_all records.now.bytes.now) from self.old }
+        ensures { outcome_of result ≡ check_events (decode_all records.now.bytes.now) }
+    {
+        for e in from..records.bytes.len() / 2 + 1 {
+            if let Err(question) = self.ask(records, e) {
                 return Err(caused(question, e));
             }
         }
@@ -342,36 +386,35 @@ fn caused(question: Question, e: usize) -> Refusal
     }
 }
 
-// The latest event of each task before event e.
-fn latest_before(records: &[u8], e: usize) -> [u16; 16]
-    requires { (1 ≤ e) × (2 * e ≤ length records.now + 2) × (length records.now ≤ records_length) }
-    ensures { LatestEvents (λ f. true) (task (decode_all records.now)) e result }
+// What the events before event e, none of them a start or a join, have done to each task.
+fn lives_before(records: &Unasked, e: usize) -> [Life; 16]
+    requires { (1 ≤ e) × (2 * e ≤ length records.now.bytes.now + 2)
+        × Unforked (decode_all records.now.bytes.now) e }
+    ensures { Lives (decode_all records.now.bytes.now) e e result }
 {
-    let mut latest = [0u16; 16];
+    let mut lives = [Life {
+        start: 0,
+        join: 0,
+        latest: 0,
+    }; 16];
     for f in 1..e {
-        latest[task(records, f) as usize] = f as u16;
+        lives[task(records.bytes, f) as usize].latest = f as u16;
     }
-    latest
+    lives
 }
 
-// Puts questions 4 to 7, 15 and 16 event by event: the earliest event with a "no" decides. The latest event
-// of each task is kept from the first start or join on.
-fn check_events(records: &[u8]) -> Result<(), Refusal>
-    requires { length records.now ≤ records_length }
-    ensures { outcome_of result ≡ check_events (decode_all records.now) }
+// Puts questions 4 to 7, 15 and 16 event by event: the earliest event with a "no" decides. What is done to
+// the tasks is kept from the first start or join on.
+fn check_events(records: &Unasked) -> Result<(), Refusal>
+    ensures { outcome_of result ≡ check_events (decode_all records.now.bytes.now) }
 {
-    let mut past = Past {
-        locks: Locks {
-            holders: [0; 64],
-            depths: [1; 64],
-        },
-        writes: [0; 1024],
-        starts: [0; 16],
-        joins: [0; 16],
-    };
-    match past.check_plain(records)? {
+    let mut past = Past::new();
+    match past.check(records)? {
         None => Ok(()),
-        Some(from) => past.check_forked(records, from),
+        Some(from) => {
+            let lives = lives_before(records, from);
+            Forked { past, lives }.check(records, from)
+        }
     }
 }
 
@@ -396,7 +439,9 @@ pub fn check(recording: &[u8]) -> Result<(), Refusal>
     if recording.len() != 2 + 2 * event_count(recording) {
         return Err(Question::Length.into());
     }
-    check_events(&recording[2..])
+    check_events(&Unasked {
+        bytes: &recording[2..],
+    })
 }
 
 impl<'a> Records<'a> {

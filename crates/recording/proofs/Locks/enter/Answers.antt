@@ -7,17 +7,17 @@ use Rattle.recording.proofs.Locks.enter.Goals as goal
 use Rattle.recording.proofs.Locks.enter.Goals.{After-task-own}
 
 pub lock-l-requires : goal.lock-l-requires
-lock-l-requires c = (c.requires.0, c.requires.1, enters-object _ _ c.requires.3)
+lock-l-requires c = (c.requires.0, c.requires.1, enters-object _ _ c.requires.2)
 
 -- The event's task and lock.
 unpacked : (c : goal.After-task-own)
-    → Locked (decode_all c.args.records.now) c.args.e c.task-own.result c.lock-l.result
+    → Locked (decode_all c.args.records.now.bytes.now) c.args.e c.task-own.result c.lock-l.result
     c.args.self.now.holders c.args.self.now.depths
-unpacked c = record { task_is = c.task-own.ensures; object_is = c.lock-l.ensures; held = c.requires.4 }
+unpacked c = record { task_is = c.task-own.ensures; object_is = c.lock-l.ensures; held = c.requires.3 }
 
 pub returns-then-self-l-eq0 : goal.returns-then-self-l-eq0
 returns-then-self-l-eq0 c =
-    let entered = enter_first (unpacked (goal.at.returns-then-self-l-eq0 c).After-task-own) c.requires.3
+    let entered = enter_first (unpacked (goal.at.returns-then-self-l-eq0 c).After-task-own) c.requires.2
     c.if-self-l-eq0.true in
     record { fault = entered.0; held = entered.1 }
 
@@ -29,9 +29,9 @@ returns-then-self-l-clause-fault c =
 pub overflow_add-self : goal.overflow_add-self
 overflow_add-self c =
     let u = unpacked (goal.at.overflow_add-self c).After-task-own in
-    omega (arith, depth-fits u c.requires.0, c.requires.2)
+    omega (arith, depth-fits u c.requires.0, c.requires.1, c.args.records.now.short)
 
 pub returns : goal.returns
 returns c =
-    let entered = enter-again (unpacked (goal.at.returns c).After-task-own) c.requires.3 c.if-self-l.false in
+    let entered = enter-again (unpacked (goal.at.returns c).After-task-own) c.requires.2 c.if-self-l.false in
     record { fault = entered.0; held = entered.1 }

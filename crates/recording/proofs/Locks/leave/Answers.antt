@@ -10,7 +10,7 @@ lock-l-requires c = (c.requires.0, c.requires.1, leaves-object _ _ c.requires.2)
 
 -- The event's task and lock.
 unpacked : (c : goal.After-task)
-    → Locked (decode_all c.args.records.now) c.args.e c.task.result c.lock-l.result
+    → Locked (decode_all c.args.records.now.bytes.now) c.args.e c.task.result c.lock-l.result
     c.args.self.now.holders c.args.self.now.depths
 unpacked c = record { task_is = c.task.ensures; object_is = c.lock-l.ensures; held = c.requires.3 }
 

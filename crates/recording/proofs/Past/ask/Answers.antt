@@ -1,14 +1,78 @@
--- `recording::Past::ask` meets its contract: what the event does is asked first, and then whether its task is
--- over. Assumes nothing.
-use Rattle.recording.proofs.Walk.{answer_over, answer_passed}
+-- `recording::Past::ask` meets its contract: each return cites the law of its case. Assumes nothing.
+use Prim.Native.Nat.{ℕ}
+use mathlib.Core.Path.{◌≡◌, refl, sym, ◌∙◌}
+use native.Mathlib.Omega.{arith}
+use Rattle.model.specs.Trace.{at}
+use Rattle.model.specs.Recording.{decode_all}
+use Rattle.laws.proofs.Operations.{enters_is, leaves_is}
+use Rattle.laws.proofs.Results.{passed_on}
+use Rattle.recording.proofs.Laws.{Coming, read_refused, read_passed, written, acquire_refused, acquired}
+use Rattle.recording.proofs.Laws.{release_refused, released, code_last}
 use Rattle.recording.proofs.Past.ask.Goals as goal
+use Rattle.recording.proofs.Past.ask.Goals.{After-operation, In_default-op}
 
-pub returns-then-over-ne0-clause-fault : goal.returns-then-over-ne0-clause-fault
-returns-then-over-ne0-clause-fault c =
-    answer_over c.requires.3 c.task-t.ensures c.in_ok-ask_object.ensures c.if-over-ne0.true
+-- The event with its operation.
+unpacked : (c : goal.After-operation) {op : ℕ} → op ≡ (at (decode_all c.args.records.now.bytes.now) c.args.e).op
+    → Coming (decode_all c.args.records.now.bytes.now) c.args.e op c.object-at.result c.args.self.now
+unpacked c is = record { op_is = is; object_is = c.object-at.ensures; done = c.requires.2 }
 
-pub returns : goal.returns
-returns c =
-    let passed = answer_passed c.requires.3 c.task-t.ensures c.in_ok-ask_object.ensures c.told-latest
-    c.if-over-ne0.false in
-    record { fault = passed.0; next = passed.1 }
+pub returns-then-self-at-eq0 : goal.returns-then-self-at-eq0
+returns-then-self-at-eq0 c =
+    read_refused (unpacked (goal.at.returns-then-self-at-eq0 c).After-operation c.in-Read.ensures) refl
+    c.if-self-at-eq0.true
+
+pub returns-else-self-at-eq0 : goal.returns-else-self-at-eq0
+returns-else-self-at-eq0 c =
+    read_passed (unpacked (goal.at.returns-else-self-at-eq0 c).After-operation c.in-Read.ensures) refl
+    c.if-self-at-eq0.false
+
+pub returns-in-Write : goal.returns-in-Write
+returns-in-Write c =
+    written (unpacked (goal.at.returns-in-Write c).After-operation c.in-Write.ensures) refl
+
+pub enter-requires : goal.enter-requires
+enter-requires c =
+    let s = c.requires in
+    let entered = enters_is _ _ c.in-Acquire.ensures (omega (arith, c.if-at-ge64.false, c.object-at.ensures))
+    refl in
+    (s.0, s.1, entered, s.2.holder)
+
+pub returns-in_err-enter-in-Acquire : goal.returns-in_err-enter-in-Acquire
+returns-in_err-enter-in-Acquire c =
+    let u = unpacked (goal.at.returns-in_err-enter-in-Acquire c).After-operation c.in-Acquire.ensures in
+    rw (passed_on c.from_residual.result _ c.from_residual.ensures.1)
+    (acquire_refused u c.if-at-ge64.false refl _ c.in_err-enter-in-Acquire.ensures.fault)
+
+pub returns-in_ok-enter-in-Acquire : goal.returns-in_ok-enter-in-Acquire
+returns-in_ok-enter-in-Acquire c =
+    let u = unpacked (goal.at.returns-in_ok-enter-in-Acquire c).After-operation c.in-Acquire.ensures in
+    let y = c.in_ok-enter-in-Acquire.ensures in
+    acquired u c.if-at-ge64.false refl c.enter.new.self y.fault y.held
+
+-- What is left is a release.
+release : (c : goal.In_default-op) → 3 ≡ (at (decode_all c.args.records.now.bytes.now) c.args.e).op
+release c =
+    sym (code_last c.operation.result c.in_default.not-Read c.in_default.not-Write c.in_default-op.not-Acquire)
+    ∙ c.operation.ensures
+
+pub leave-requires : goal.leave-requires
+leave-requires c =
+    let s = c.requires in
+    let left = leaves_is _ _ (release (goal.at.leave-requires c).In_default-op)
+    (omega (arith, c.if-at-ge64.false, c.object-at.ensures)) refl in
+    (s.0, s.1, left, s.2.holder)
+
+pub returns-in_err-leave-in_default-op : goal.returns-in_err-leave-in_default-op
+returns-in_err-leave-in_default-op c =
+    let o = goal.at.returns-in_err-leave-in_default-op c in
+    let passed = c.from_residual-in_err-leave-in_default-op in
+    rw (passed_on passed.result _ passed.ensures.1)
+    (release_refused (unpacked o.After-operation (release o.In_default-op)) c.if-at-ge64.false refl _
+    c.in_err-leave-in_default-op.ensures.fault)
+
+pub returns-in_ok-leave-in_default-op : goal.returns-in_ok-leave-in_default-op
+returns-in_ok-leave-in_default-op c =
+    let o = goal.at.returns-in_ok-leave-in_default-op c in
+    let y = c.in_ok-leave-in_default-op.ensures in
+    released (unpacked o.After-operation (release o.In_default-op)) c.if-at-ge64.false refl c.leave.new.self
+    y.fault y.held
