@@ -70,7 +70,7 @@ struct Life {
     latest: u16,
 }
 
-// What earlier events have done, where starts and joins may be among them: also to each task.
+// What earlier events have done, and from the first start or join on what they have done to each task.
 #[derive(Drop)]
 struct Forked {
     past: Past,
@@ -128,7 +128,7 @@ pub fn object(records: &[u8], e: usize) -> u16
     ensures { (result < variables) × (result ≡ object (decode_all records.now) e) }
 {
     let at = 2 * (e - 1);
-    u16::from_be_bytes([records[at] & 3, records[at + 1]])
+    u16::from_be_bytes([records[at], records[at + 1]]) & 1023
 }
 
 // The lock that event e names.
@@ -209,19 +209,6 @@ impl Locks {
 }
 
 impl Past {
-    // Before event 1 nothing is done.
-    fn new() -> Past
-        ensures { (σ : Trace) → Done σ 1 result }
-    {
-        Past {
-            locks: Locks {
-                holders: [0; 64],
-                depths: [1; 64],
-            },
-            writes: [0; 1024],
-        }
-    }
-
     // Puts questions 4 to 7 to event e where it is an access or names a lock; what it does is then done as
     // well. Otherwise it is found lockless, and nothing is done.
     fn ask(&mut self, records: &Unasked, e: usize) -> Result<Asked, Question>
@@ -277,6 +264,19 @@ impl Life {
 }
 
 impl Forked {
+    // Notes of the events before event e, none of them a start or a join, the latest one of each task.
+    fn note_before(&mut self, records: &Unasked, e: usize)
+        requires { (1 ≤ e) × (2 * e ≤ length records.now.bytes.now)
+            × Unforked (decode_all records.now.bytes.now) e
+            × Lives (decode_all records.now.bytes.now) 1 1 self.old.lives }
+        ensures { (self.new.past ≡ self.old.past)
+            × Lives (decode_all records.now.bytes.now) e e self.new.lives }
+    {
+        for f in 1..e {
+            self.lives[task(records.bytes, f) as usize].latest = f as u16;
+        }
+    }
+
     // Puts question 15 to start e of task u, which is new where it is not the start's own and nothing is
     // noted of it: e is then its start.
     fn start(&mut self, records: &Unasked, e: usize, u: usize) -> Result<(), Question>
@@ -386,34 +386,29 @@ fn caused(question: Question, e: usize) -> Refusal
     }
 }
 
-// What the events before event e, none of them a start or a join, have done to each task.
-fn lives_before(records: &Unasked, e: usize) -> [Life; 16]
-    requires { (1 ≤ e) × (2 * e ≤ length records.now.bytes.now + 2)
-        × Unforked (decode_all records.now.bytes.now) e }
-    ensures { Lives (decode_all records.now.bytes.now) e e result }
-{
-    let mut lives = [Life {
-        start: 0,
-        join: 0,
-        latest: 0,
-    }; 16];
-    for f in 1..e {
-        lives[task(records.bytes, f) as usize].latest = f as u16;
-    }
-    lives
-}
-
-// Puts questions 4 to 7, 15 and 16 event by event: the earliest event with a "no" decides. What is done to
-// the tasks is kept from the first start or join on.
+// Puts questions 4 to 7, 15 and 16 event by event: the earliest event with a "no" decides.
 fn check_events(records: &Unasked) -> Result<(), Refusal>
     ensures { outcome_of result ≡ check_events (decode_all records.now.bytes.now) }
 {
-    let mut past = Past::new();
-    match past.check(records)? {
+    let mut forked = Forked {
+        past: Past {
+            locks: Locks {
+                holders: [0; 64],
+                depths: [1; 64],
+            },
+            writes: [0; 1024],
+        },
+        lives: [Life {
+            start: 0,
+            join: 0,
+            latest: 0,
+        }; 16],
+    };
+    match forked.past.check(records)? {
         None => Ok(()),
         Some(from) => {
-            let lives = lives_before(records, from);
-            Forked { past, lives }.check(records, from)
+            forked.note_before(records, from);
+            forked.check(records, from)
         }
     }
 }

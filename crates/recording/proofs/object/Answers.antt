@@ -10,6 +10,6 @@ pub returns : goal.returns
 returns c =
     let a = c.args in
     let hi = get_or a.records.now (2 * (a.e - 1)) 0 in
-    let is = rw (and_mask hi 2) at c.from_be_bytes.ensures in
-    let small = c.type_inv.records (2 * (a.e - 1) + 1) in
-    omega (arith, is, small, record-object a.records.now a.e c.requires.0 c.requires.1)
+    let low = c.type_inv.records (2 * (a.e - 1) + 1) in
+    let is = record-object a.records.now a.e c.requires.0 c.requires.1 in
+    rw (and_mask c.from_be_bytes.result 10) (omega (arith, low, is, c.from_be_bytes.ensures), omega (arith, low, is, c.from_be_bytes.ensures))
