@@ -47,7 +47,8 @@ module _ {σ : Trace} {e : ℕ} where
 
   module _ {seen : ℕ} {lives : List Life} where
     -- An event that is no start and no join leaves starts and joins.
-    pub lives_plain : (is_start σ e || is_join σ e) ≡ false → Lives σ e seen lives → Lives σ (e + 1) seen lives
+    pub lives_plain : (is_start σ e || is_join σ e) ≡ false → Lives σ e seen lives
+        → Lives σ (e + 1) seen lives
     unfolding start_of join_of starts joins
     lives_plain n z =
         let (no-start, no-join) = neither (is_start σ e) (is_join σ e) n in record {
@@ -228,6 +229,7 @@ module _ {σ : Trace} {e u : ℕ} {forked : Forked} (target_is : IsTarget σ e u
       join_fault ∙ rw (ne_eqb (target σ e) (task σ e) (λ r. d (target_is.1 ∙ r))),
       record {
         past = done join_op (omega (arith, join_op)) (join-object σ e a);
-        lives = join_noted target_is z.lives (is_start-none σ e join_op (omega (arith, join_op))) (is_true _ a);
+        lives = join_noted target_is z.lives (is_start-none σ e join_op (omega (arith, join_op)))
+            (is_true _ a);
       },
     )

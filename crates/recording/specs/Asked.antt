@@ -28,8 +28,8 @@ code Write = 1
 code Acquire = 2
 code Release = 3
 
--- What earlier accesses and records of locks have done: holder and depth of each lock, and the latest write of
--- each variable.
+-- What earlier accesses and records of locks have done: holder and depth of each lock, and the latest write
+-- of each variable.
 pub record Done (σ : Trace) (e : ℕ) (past : Past) : Type 0 where
   pub holder : Holders σ e past.locks.holders past.locks.depths
   pub writes_long : length past.writes ≡ variables

@@ -12,4 +12,5 @@ returns c =
     let hi = get_or a.records.now (2 * (a.e - 1)) 0 in
     let low = c.type_inv.records (2 * (a.e - 1) + 1) in
     let is = record-object a.records.now a.e c.requires.0 c.requires.1 in
-    rw (and_mask c.from_be_bytes.result 10) (omega (arith, low, is, c.from_be_bytes.ensures), omega (arith, low, is, c.from_be_bytes.ensures))
+    let read = c.from_be_bytes.ensures in
+    rw (and_mask c.from_be_bytes.result 10) (omega (arith, low, is, read), omega (arith, low, is, read))

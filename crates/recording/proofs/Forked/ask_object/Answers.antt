@@ -1,5 +1,5 @@
--- `recording::Forked::ask_object` meets its contract: an access or a record of a lock leaves starts and joins.
--- Assumes nothing.
+-- `recording::Forked::ask_object` meets its contract: an access or a record of a lock leaves starts
+-- and joins. Assumes nothing.
 use Rattle.recording.proofs.Tasks.{lives_plain}
 use Rattle.recording.proofs.Forked.ask_object.Goals as goal
 

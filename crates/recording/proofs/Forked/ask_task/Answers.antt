@@ -1,5 +1,5 @@
--- `recording::Forked::ask_task` meets its contract: what names no lock is a start or a join, or has no object.
--- Assumes nothing.
+-- `recording::Forked::ask_task` meets its contract: what names no lock is a start or a join, or has no
+-- object. Assumes nothing.
 use Prim.Native.Nat.{◌≤◌}
 use mathlib.Core.Path.{refl}
 use native.Mathlib.Omega.{arith}

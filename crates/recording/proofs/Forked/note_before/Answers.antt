@@ -1,5 +1,5 @@
--- `recording::Forked::note_before` meets its contract: before each event the latest one of each task is noted.
--- Assumes nothing.
+-- `recording::Forked::note_before` meets its contract: before each event the latest one of each task is
+-- noted. Assumes nothing.
 use native.Mathlib.Omega.{arith}
 use Rattle.recording.proofs.Tasks.{lives_plain, latest_noted}
 use Rattle.recording.proofs.Forked.note_before.Goals as goal

@@ -1,5 +1,5 @@
--- `recording::Forked::note_before` meets its contract: before each event the latest one of each task is noted.
--- Assumes nothing.
+-- `recording::Forked::note_before` meets its contract: before each event the latest one of each task is
+-- noted. Assumes nothing.
 use mathlib.Core.Path.{◌≡◌}
 use Rattle.model.specs.Recording.{decode_all}
 use Rattle.recording.specs.Asked.{Lives}

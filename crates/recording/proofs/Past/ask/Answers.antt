@@ -12,7 +12,8 @@ use Rattle.recording.proofs.Past.ask.Goals as goal
 use Rattle.recording.proofs.Past.ask.Goals.{After-operation, In_default-op}
 
 -- The event with its operation.
-unpacked : (c : goal.After-operation) {op : ℕ} → op ≡ (at (decode_all c.args.records.now.bytes.now) c.args.e).op
+unpacked : (c : goal.After-operation) {op : ℕ}
+    → op ≡ (at (decode_all c.args.records.now.bytes.now) c.args.e).op
     → Coming (decode_all c.args.records.now.bytes.now) c.args.e op c.object-at.result c.args.self.now
 unpacked c is = record { op_is = is; object_is = c.object-at.ensures; done = c.requires.2 }
 
@@ -52,7 +53,8 @@ returns-in_ok-enter-in-Acquire c =
 -- What is left is a release.
 release : (c : goal.In_default-op) → 3 ≡ (at (decode_all c.args.records.now.bytes.now) c.args.e).op
 release c =
-    sym (code_last c.operation.result c.in_default.not-Read c.in_default.not-Write c.in_default-op.not-Acquire)
+    let d = c.in_default in
+    sym (code_last c.operation.result d.not-Read d.not-Write c.in_default-op.not-Acquire)
     ∙ c.operation.ensures
 
 pub leave-requires : goal.leave-requires
