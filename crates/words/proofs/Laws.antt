@@ -93,10 +93,10 @@ pub row_word : (n : ℕ) (b : List ℕ) → length b ≤ 8 → ((k : ℕ) → ge
     → n ≡ from_be_bytes w64 (b ++ drop (length b) (replicate 8 0)) → (i : ℕ) → i < 64
     → has_bit n (63 - i) ≡ row_bit 8 b i
 row_word n b fits small q i h =
-    let zeros : List ℕ = drop (length b) (replicate 8 0) in
-    let left : length zeros ≡ 8 - length b = length-drop {A = ℕ} (length b) (replicate 8 0) in
-    let long : length (b ++ zeros) ≡ 8 = omega (arith, length-append b zeros) in
-    let bytes = be_bytes_8 (b ++ zeros) n long (λ k. rw (padded_at b (length b) 8 k) (small k)) q in
+    let clear : List ℕ = drop (length b) (replicate 8 0) in
+    let left : length clear ≡ 8 - length b = length-drop {A = ℕ} (length b) (replicate 8 0) in
+    let long : length (b ++ clear) ≡ 8 = omega (arith, length-append b clear) in
+    let bytes = be_bytes_8 (b ++ clear) n long (λ k. rw (padded_at b (length b) 8 k) (small k)) q in
     sym (word_row n i h) ∙ ap (λ (l : List ℕ). row_bit 8 l i) bytes
     ∙ ap (λ (x : ℕ). has_bit x (7 - i % 8)) (padded_at b (length b) 8 (i / 8))
 
