@@ -8,7 +8,7 @@ use mathlib.Core.List.{List, [], ◌∷◌, map, append-nil}
 use native.Mathlib.Omega.{arith}
 use native.Mathlib.Numerals.{add-one}
 use lib.Dec.{T, ltb}
-use lib.ListN.{length, get_or, replicate, length-map, get_or-replicate, get_or-eq_default}
+use lib.ListN.{length, get_or, replicate, length-map, get_or-eq_default}
 use lib.Seq.{ext_get_or}
 use borrow.Author.Tests.{le-ltb}
 use Rattle.std.specs.List.{list_all, range_with_len}
@@ -17,7 +17,7 @@ use Rattle.model.specs.Trace.{Trace}
 use Rattle.model.specs.EventSet.{EventSet, has, members, set_length, lent_bit, packed, set_bytes}
 use Rattle.laws.specs.BitRow.{row_bit}
 use Rattle.laws.proofs.Tests.{decided, at-most?, is_true, is_false}
-use Rattle.laws.proofs.Lists.{all_iff, from_iff, from_split}
+use Rattle.laws.proofs.Lists.{all_iff, from_iff, from_split, zeros}
 use Rattle.laws.proofs.Filters.{filter-append, filter_ext, filter_none, filter_map}
 use Rattle.laws.proofs.Bits.{has_bit-none, has_bit_ext, has_bit_beyond}
 use Rattle.words.proofs.Laws.{row_clear}
@@ -87,9 +87,19 @@ bytes_of σ s b long small same = ext_get_or 0 b (set_bytes σ s) (long ∙ sym 
 -- ---- which bits
 
 -- A lent set has the bits of a row.
-pub lent_row : (b : List ℕ) (e : ℕ) → lent_bit b e ≡ row_bit 8 b (e - 1)
+lent_row : (b : List ℕ) (e : ℕ) → lent_bit b e ≡ row_bit 8 b (e - 1)
 unfolding lent_bit
 lent_row b e = refl
+
+module _ (set words : List ℕ) (packed : (i : ℕ) → row_bit 64 words i ≡ row_bit 8 set i) where
+  -- Words with the bits of a lent set have its events,
+  pub lent_words : (e : ℕ) → lent_bit set e ≡ row_bit 64 words (e - 1)
+  lent_words e = lent_row set e ∙ sym (packed (e - 1))
+
+  -- and are clear where it is.
+  pub clear_words : (l : List ℕ) → all (λ e. not (row_bit 64 words (e - 1))) l
+      ≡ all (λ e. not (lent_bit set e)) l
+  clear_words l = λ i. all (λ e. not (sym (lent_words e) i)) l
 
 -- The bits after the last event are zero.
 pub spare-zero : (b : List ℕ) (n : ℕ)
@@ -111,10 +121,7 @@ spare-zero b n t i h = ⊎_elim beyond inside (at-most? (8 * length b) i)
 
 -- In words of 0 no event has passed.
 pub row-none : (ws : List ℕ) (i : ℕ) (b : Bool) → ws ≡ replicate 64 0 → row_bit 64 ws i ≡ (ltb i 0 && b)
-row-none ws i b q = rw (q, le-ltb i 0 (omega arith)) (row_clear 64 (replicate 64 0) zeros i)
-  where
-    zeros : (k : ℕ) → k < length {A = ℕ} (replicate 64 0) → ◌≡◌ {A = ℕ} (get_or (replicate 64 0) k 0) 0
-    zeros k h = get_or-replicate {A = ℕ} 64 k 0 0 h
+row-none ws i b q = rw (q, le-ltb i 0 (omega arith)) (row_clear 64 (replicate 64 0) (λ k _. zeros 64 k) i)
 
 -- ---- the spare bits, one by one
 

@@ -18,7 +18,7 @@ use Rattle.laws.proofs.Tests.{at-most?}
 use Rattle.laws.proofs.EventBytes.{lent_set_sized, lent_set-has}
 use Rattle.laws.proofs.Closure.{closure_sized, closure_contains}
 use Rattle.closure.specs.Reach.{Closes}
-use Rattle.closure.proofs.Sets.{filter_more, count-members, bytes_of, lent_row, spare-zero}
+use Rattle.closure.proofs.Sets.{filter_more, count-members, bytes_of, lent_words, spare-zero}
 
 -- No event is taken out.
 pub members_grow : (σ : Trace) (set : List ℕ)
@@ -28,9 +28,6 @@ members_grow σ set =
     (closure_contains σ (lent_set σ set))
 
 module _ (σ : Trace) (set words : List ℕ) (packed : (i : ℕ) → row_bit 64 words i ≡ row_bit 8 set i) where
-  lent_words : (e : ℕ) → lent_bit set e ≡ row_bit 64 words (e - 1)
-  lent_words e = lent_row set e ∙ sym (packed (e - 1))
-
   -- The words have as many events as the lent set.
   pub count_lent : T (all (λ e. not (lent_bit set e)) (from (suc (length σ)) (8 * length set - length σ)))
       → (m : ℕ) → length σ ≤ m
@@ -42,7 +39,7 @@ module _ (σ : Trace) (set words : List ℕ) (packed : (i : ℕ) → row_bit 64 
       same : (i : ℕ) → i < length σ → row_bit 64 words i ≡ has (lent_set σ set) (suc i)
       same i k =
           let back : suc i - 1 ≡ i = omega arith in
-          sym (lent_set-has σ set (suc i) (omega arith) k ∙ rw back at (lent_words (suc i)))
+          sym (lent_set-has σ set (suc i) (omega arith) k ∙ rw back at (lent_words set words packed (suc i)))
 
   module _ (front words' : List ℕ) (closes : Closes σ words front)
       (put : (i : ℕ) → row_bit 64 words' i
@@ -50,7 +47,7 @@ module _ (σ : Trace) (set words : List ℕ) (packed : (i : ℕ) → row_bit 64 
     inside : (i : ℕ) → i < length σ → row_bit 64 words' i ≡ has (closure σ (lent_set σ set)) (suc i)
     inside i h =
         rw (put i, lt-ltb i (length σ) h)
-        (sym (closes.closes set (λ e _ _. lent_words e) (suc i) (omega arith) h))
+        (sym (closes.closes set (λ e _ _. lent_words set words packed e) (suc i) (omega arith) h))
 
     past : (i : ℕ) → length σ ≤ i → row_bit 64 words' i ≡ false
     past i h = rw (put i, le-ltb i (length σ) h)

@@ -20,27 +20,19 @@ use model::{Question, Refusal};
 use recording::Records;
 use relations::{Tables, Trace};
 
-// The bit of event e is set in the bytes of a lent set.
-fn lent_bit(set: &[u8], e: usize) -> bool
-    requires { (1 ≤ e) × (e ≤ 8 * length set.now) }
-    ensures { result ≡ lent_bit set.now e }
+// Question 12: in the words of a set of so many bytes the bits after event n are zero.
+fn spare_clear(words: &[u64; 64], n: usize, bytes: usize) -> bool
+    requires { (n ≤ 8 * bytes) × (bytes ≤ 512) }
+    ensures { result ≡ all (λ e. not (row_bit 64 words.now (e - 1))) (from (n + 1) (8 * bytes - n)) }
 {
-    (set[(e - 1) / 8] >> (7 - (e - 1) % 8)) & 1 == 1
-}
-
-// Question 12: the bits after event n are zero.
-fn spare_clear(set: &[u8], n: usize) -> bool
-    requires { (n ≤ 8 * length set.now) × (length set.now ≤ 512) }
-    ensures { result ≡ all (λ e. not (lent_bit set.now e))
-        (from (n + 1) (8 * length set.now - n)) }
-{
-    (n + 1..8 * set.len() + 1).all(|e| !lent_bit(set, e))
+    (n + 1..8 * bytes + 1).all(|e| !words::has(words, e))
 }
 
 // Of each task the latest event that is in the set.
 fn wanted(trace: &Trace, words: &[u64; 64]) -> [u16; 16]
     ensures { LatestEvents (λ f. row_bit 64 words.now (f - 1))
-        (task (decode_all trace.now.records.bytes.now)) (length (decode_all trace.now.records.bytes.now) + 1) result }
+        (task (decode_all trace.now.records.bytes.now))
+        (length (decode_all trace.now.records.bytes.now) + 1) result }
 {
     let mut want = [0; 16];
     for e in 1..trace.len() + 1 {
@@ -63,8 +55,8 @@ fn reach(trace: &Trace, words: &[u64; 64]) -> Frontier
 // The set of the frontier.
 fn set_behind(trace: &Trace, frontier: &Frontier) -> [u64; 64]
     ensures { (i : ℕ) → row_bit 64 result i
-        ≡ (ltb i (length (decode_all trace.now.records.bytes.now))
-        && leb (suc i) (get_or frontier.now.front (task (decode_all trace.now.records.bytes.now) (suc i)) 0)) }
+        ≡ (ltb i (length (decode_all trace.now.records.bytes.now)) && leb (suc i)
+        (get_or frontier.now.front (task (decode_all trace.now.records.bytes.now) (suc i)) 0)) }
 {
     let mut words = [0; 64];
     for e in 1..trace.len() + 1 {
@@ -75,9 +67,10 @@ fn set_behind(trace: &Trace, frontier: &Frontier) -> [u64; 64]
     words
 }
 
-// Closes a lent set: how many events that adds.
-fn close_set(trace: &Trace, set: &mut [u8]) -> u64
+// Closes a lent set, whose words these are: how many events that adds.
+fn close_set(trace: &Trace, words: &[u64; 64], set: &mut [u8]) -> u64
     requires { (length set.old ≡ set_length (length (decode_all trace.now.records.bytes.now)))
+        × ((i : ℕ) → row_bit 64 words.now i ≡ row_bit 8 set.old i)
         × T (all (λ e. not (lent_bit set.old e)) (from (suc (length (decode_all trace.now.records.bytes.now)))
         (8 * length set.old - length (decode_all trace.now.records.bytes.now)))) }
     ensures answer { result ≡ length (members (decode_all trace.now.records.bytes.now)
@@ -89,14 +82,10 @@ fn close_set(trace: &Trace, set: &mut [u8]) -> u64
         (closure (decode_all trace.now.records.bytes.now)
         (lent_set (decode_all trace.now.records.bytes.now) set.old)) }
 {
-    let mut words = [0; 64];
-    words::pack(set, &mut words);
-    let before = words::count(&words);
-    let frontier = reach(trace, &words);
+    let frontier = reach(trace, words);
     let closed = set_behind(trace, &frontier);
-    let after = words::count(&closed);
     words::unpack(&closed, set);
-    after - before
+    words::count(&closed) - words::count(words)
 }
 
 // The closure of a lent event set: questions 11 and 12, then the set is closed in place.
@@ -109,9 +98,11 @@ pub fn close(recording: &[u8], set: &mut [u8]) -> Result<u64, Refusal>
     if set.len() != (n + 7) / 8 {
         return Err(Question::SetLength.into());
     }
-    if !spare_clear(set, n) {
+    let mut words = [0; 64];
+    words::pack(set, &mut words);
+    if !spare_clear(&words, n, set.len()) {
         return Err(Question::SpareBits.into());
     }
     let mut tables = Tables::blank();
-    Ok(close_set(&Trace::new(&records, &mut tables), set))
+    Ok(close_set(&Trace::new(&records, &mut tables), &words, set))
 }

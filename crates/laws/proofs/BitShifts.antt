@@ -1,24 +1,17 @@
--- The bits of shifted numbers, and of the low part of one: how a field moves between numbers of different
--- widths. Assumes nothing.
-use Prim.Native.Nat.{ℕ, zero, suc, ◌+◌, ◌-◌, ◌*◌, ◌/◌, ◌%◌, ◌^◌, ◌≤◌, ◌<◌}
+-- The bits of a number shifted down, and of the low part of one: how a field is taken out of a number.
+-- Assumes nothing.
+use Prim.Native.Nat.{ℕ, ◌+◌, ◌-◌, ◌/◌, ◌%◌, ◌^◌, ◌≤◌, ◌<◌}
 use mathlib.Core.Path.{◌≡◌, ap, ◌∙◌}
 use mathlib.Core.Logic.{⊎_elim}
 use mathlib.Core.Bool.{◌&&◌}
 use native.Mathlib.Omega.{arith}
-use native.Mathlib.Nat.{mul-one, sub-zero, suc-sub-suc, mod-lt}
-use lib.Bits.{shifted_half, shifted_even}
-use lib.Dec.{eqb, leb, ltb, leb-zero, leb-suc-zero, leb-suc-suc}
+use native.Mathlib.Nat.{mod-lt}
+use lib.Dec.{eqb, ltb}
 use lib.Pow.{pow_pos, shr-shr, field, mod-mod-pow}
 use borrow.Author.Tests.{lt-ltb, le-ltb}
 use Rattle.model.specs.Lists.{has_bit}
 use Rattle.laws.proofs.Tests.{at-most?}
-use Rattle.laws.proofs.Bits.{has_bit-zero, has_bit-suc, has_bit_beyond}
-
--- Shifted up by s places, a bit stands s places higher, and nothing below.
-pub has_bit_shl : (m s l : ℕ) → has_bit (m * 2 ^ s) l ≡ (leb s l && has_bit m (l - s))
-has_bit_shl m zero l = rw (mul-one, sub-zero, leb-zero)
-has_bit_shl m (suc s) zero = rw (has_bit-zero, shifted_even, leb-suc-zero)
-has_bit_shl m (suc s) (suc l) = rw (has_bit-suc, shifted_half, leb-suc-suc, suc-sub-suc) (has_bit_shl m s l)
+use Rattle.laws.proofs.Bits.{has_bit_beyond}
 
 -- Shifted down by s places, a bit stands s places lower.
 pub has_bit_shr : (m s l : ℕ) → has_bit (m / 2 ^ s) l ≡ has_bit m (s + l)

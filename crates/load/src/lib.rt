@@ -22,9 +22,9 @@ fn depth_after(records: &Records, e: usize, lock: u64, depth: u16) -> u16
         return depth;
     }
     match recording::operation(records.bytes, e) {
-        Op::Read | Op::Write => depth,
         Op::Acquire => depth + 1,
         Op::Release => depth - 1,
+        _ => depth,
     }
 }
 

@@ -1,29 +1,33 @@
--- Rows of bits in words and in bytes: how a byte goes into its word and comes out of it, and how the bits of
--- a word are counted. Assumes nothing.
-use Prim.Native.Nat.{ℕ, zero, suc, ◌+◌, ◌-◌, ◌*◌, ◌/◌, ◌%◌, ◌^◌, ◌≤◌, ◌<◌}
+-- Rows of bits in words and in bytes: a word and its eight bytes have the same row, and how the bits of a
+-- word are counted. Assumes nothing.
+use Prim.Native.Nat.{ℕ, zero, suc, ◌+◌, ◌-◌, ◌*◌, ◌/◌, ◌%◌, ◌^◌, ◌≤◌, ◌<◌, min}
 use mathlib.Core.Path.{◌≡◌, refl, sym, ap, ap₂, ◌∙◌}
 use mathlib.Core.Logic.{⊎_elim, ◌≢◌}
-use mathlib.Core.Bool.{Bool, true, false, cond, ◌&&◌, ◌||◌, or-false}
-use mathlib.Core.List.{List, ◌∷◌}
+use mathlib.Core.Bool.{Bool, true, false, cond, ◌&&◌}
+use mathlib.Core.List.{List, ◌∷◌, ◌++◌}
 use native.Mathlib.Omega.{arith}
-use native.Mathlib.Nat.{add-zero}
+use native.Mathlib.Nat.{add-zero, pow-suc}
 use native.Mathlib.Numerals.{add-one}
-use lib.Bits.{bit_or, bit_and, and_mask}
 use lib.Count.{ones}
-use lib.Dec.{eqb, leb, ltb}
-use lib.ListN.{length, get_or, set, take, get_or-eq_default, length-append}
-use lib.Pow.{shl_exact}
-use lib.Seq.{get_or-set_same, get_or-set_other, take-length}
-use borrow.Author.Tests.{eq-eqb, ne_eqb, le-leb, lt-leb, lt-ltb, le-ltb, eqb-true}
+use lib.Dec.{ltb}
+use lib.ListN.{length, get_or, set, take, drop, replicate, get_or-eq_default, get_or-append}
+use lib.ListN.{length-append, length-drop}
+use lib.Pow.{pow-add}
+use lib.Seq.{get_or-set_same, get_or-set_other, get_or-append_right, get_or-take, get_or-drop, drop-drop}
+use lib.Seq.{take-length, take-append_seam, drop-append_seam}
+use borrow.Author.Tests.{lt-ltb, le-ltb}
+use Rattle.std.specs.Int.{w64, byte_at, bytes_high_first, to_be_bytes, from_be_bytes}
 use Rattle.std.specs.List.{sum_by}
+use Rattle.std.proofs.lemmas.List.{take_min, drop_min}
 use Rattle.std.proofs.lemmas.List.Sums.{sum_by_more}
+use Rattle.std.proofs.lemmas.Nat.{be_bytes_8}
 use Rattle.model.specs.Lists.{has_bit, filter, from}
 use Rattle.laws.specs.BitRow.{row_bit}
-use Rattle.laws.proofs.Tests.{equal?, at-most?, decided}
-use Rattle.laws.proofs.Lists.{from_split}
+use Rattle.laws.proofs.Tests.{equal?, at-most?, T-ext, tests}
+use Rattle.laws.proofs.Lists.{from_split, zeros}
 use Rattle.laws.proofs.Filters.{filter-append}
-use Rattle.laws.proofs.Bits.{has_bit-none, has_bit-or, has_bit_beyond}
-use Rattle.laws.proofs.BitShifts.{has_bit_shl, has_bit_shr, has_bit_low}
+use Rattle.laws.proofs.Bits.{has_bit-none}
+use Rattle.laws.proofs.BitShifts.{has_bit_shr, has_bit_low}
 use Rattle.laws.proofs.Counts.{places, ones-places}
 
 -- ---- empty rows
@@ -39,99 +43,126 @@ row_clear w b h i =
     ⊎_elim (row_beyond w b i) (λ (l : i / w < length b). rw (h (i / w) l) (has_bit-none (w - 1 - i % w)))
     (at-most? (length b) (i / w))
 
+-- ---- the bytes of a word
+
+bytes_pow : (j : ℕ) → 256 ^ j ≡ 2 ^ (8 * j)
+bytes_pow zero = refl
+bytes_pow (suc j) =
+    let more : 8 * suc j ≡ 8 * j + 8 = omega arith in
+    rw (pow-suc 256 j, bytes_pow j, more) (sym (pow-add 2 (8 * j) 8))
+
+-- Byte j of a number, counted from the lowest, has its bits from 8 * j on.
+byte_bit : (j n l : ℕ) → l < 8 → has_bit (byte_at j n) l ≡ has_bit n (8 * j + l)
+byte_bit zero n l h =
+    let place : 8 * 0 + l ≡ l = omega arith in
+    rw (place, has_bit_low n 8 l, lt-ltb l 8 h) refl
+byte_bit (suc j) n l h =
+    rw (bytes_pow (suc j), has_bit_low (n / 2 ^ (8 * suc j)) 8 l, lt-ltb l 8 h) (has_bit_shr n (8 * suc j) l)
+
+-- Of k bytes, byte j from the highest one on is byte k - 1 - j from the lowest on.
+byte_from_top : (k j n : ℕ) → j < k → get_or (bytes_high_first k n) j 0 ≡ byte_at (k - 1 - j) n
+byte_from_top zero j n h = absurd (omega arith)
+byte_from_top (suc k) zero n h = let place : suc k - 1 - 0 ≡ k = omega arith in rw place refl
+byte_from_top (suc k) (suc j) n h =
+    let place : suc k - 1 - suc j ≡ k - 1 - j = omega arith in
+    rw place (byte_from_top k j n (omega arith))
+
+-- The bytes of a word have its row.
+word_row : (n i : ℕ) → i < 64 → row_bit 8 (to_be_bytes w64 n) i ≡ has_bit n (63 - i)
+word_row n i h =
+    let place : 8 * (8 - 1 - i / 8) + (7 - i % 8) ≡ 63 - i = omega arith in
+    let bit = byte_bit (8 - 1 - i / 8) n (7 - i % 8) (omega arith) in
+    rw (byte_from_top 8 (i / 8) n (omega arith), bit, place) refl
+
 -- ---- bytes into words
 
--- The first k bytes of b stand in the words, and nothing else.
+padded_at : (b : List ℕ) (m n k : ℕ) → get_or (b ++ drop m (replicate n 0)) k 0 ≡ get_or b k 0
+padded_at b m n k = ⊎_elim beyond (get_or-append b (drop m (replicate n 0)) 0 k) (at-most? (length b) k)
+  where
+    beyond : length b ≤ k → get_or (b ++ drop m (replicate n 0)) k 0 ≡ get_or b k 0
+    beyond l =
+        rw (
+          get_or-append_right b (drop m (replicate n 0)) k 0 l,
+          get_or-drop {A = ℕ} m (replicate n 0) (k - length b) 0,
+          zeros n (m + (k - length b)),
+        )
+        (sym (get_or-eq_default b 0 l))
+
+-- A word made of up to eight bytes, and zeros after them, has the row of these bytes.
+pub row_word : (n : ℕ) (b : List ℕ) → length b ≤ 8 → ((k : ℕ) → get_or b k 0 < 256)
+    → n ≡ from_be_bytes w64 (b ++ drop (length b) (replicate 8 0)) → (i : ℕ) → i < 64
+    → has_bit n (63 - i) ≡ row_bit 8 b i
+row_word n b fits small q i h =
+    let clear : List ℕ = drop (length b) (replicate 8 0) in
+    let left : length clear ≡ 8 - length b = length-drop {A = ℕ} (length b) (replicate 8 0) in
+    let long : length (b ++ clear) ≡ 8 = omega (arith, length-append b clear) in
+    let bytes = be_bytes_8 (b ++ clear) n long (λ k. rw (padded_at b (length b) 8 k) (small k)) q in
+    sym (word_row n i h) ∙ ap (λ (l : List ℕ). row_bit 8 l i) bytes
+    ∙ ap (λ (x : ℕ). has_bit x (7 - i % 8)) (padded_at b (length b) 8 (i / 8))
+
+-- The first k words have the row of the bytes, and the others no bit.
 abbrev pub Packed : List ℕ → List ℕ → ℕ → Type 0
-Packed b ws k = (i : ℕ) → row_bit 64 ws i ≡ (ltb i (8 * k) && row_bit 8 b i)
-
--- How far the lowest bit of byte k stands above that of its word.
-abbrev pub shift : ℕ → ℕ
-shift k = 56 - 8 * (k % 8)
-
--- A bit of byte k, shifted into its word.
-shifted_bit : (x k i : ℕ) → x < 256 → i / 64 ≡ k / 8
-    → has_bit (x * 2 ^ shift k % 2 ^ 64) (63 - i % 64) ≡ (eqb (i / 8) k && has_bit x (7 - i % 8))
-shifted_bit x k i h e =
-    rw (shl_exact 8 (shift k) 64 h (omega arith), has_bit_shl)
-    (⊎_elim same other (equal? (i / 8) k))
-  where
-    same : i / 8 ≡ k → (leb (shift k) (63 - i % 64) && has_bit x (63 - i % 64 - shift k))
-        ≡ (eqb (i / 8) k && has_bit x (7 - i % 8))
-    same q =
-        let place : 63 - i % 64 - shift k ≡ 7 - i % 8 = omega arith in
-        rw (eq-eqb (i / 8) k q, le-leb (shift k) (63 - i % 64) (omega arith), place)
-
-    other : i / 8 ≢ k → (leb (shift k) (63 - i % 64) && has_bit x (63 - i % 64 - shift k))
-        ≡ (eqb (i / 8) k && has_bit x (7 - i % 8))
-    other d =
-        rw (ne_eqb (i / 8) k d)
-        (⊎_elim
-        (λ (l : shift k ≤ 63 - i % 64). rw (le-leb (shift k) (63 - i % 64) l)
-        (has_bit_beyond x 8 (63 - i % 64 - shift k) h (omega arith)))
-        (λ (l : 63 - i % 64 < shift k). rw (lt-leb (shift k) (63 - i % 64) l))
-        (at-most? (shift k) (63 - i % 64)))
-
--- Byte k, shifted into its word, adds its own bits to the row.
-packed_byte : (b ws : List ℕ) (k i : ℕ) → get_or b k 0 < 256 → k / 8 < length ws
-    → row_bit 64 (set ws (k / 8) (bit_or (get_or ws (k / 8) 0) (get_or b k 0 * 2 ^ shift k % 2 ^ 64))) i
-    ≡ (row_bit 64 ws i || (eqb (i / 8) k && row_bit 8 b i))
-packed_byte b ws k i h l = ⊎_elim same other (equal? (i / 64) (k / 8))
-  where
-    new : ℕ
-    new = bit_or (get_or ws (k / 8) 0) (get_or b k 0 * 2 ^ shift k % 2 ^ 64)
-
-    own : (eqb (i / 8) k && has_bit (get_or b k 0) (7 - i % 8)) ≡ (eqb (i / 8) k && row_bit 8 b i)
-    own = decided (eqb (i / 8) k) (λ y. rw (eqb-true (i / 8) k y)) (λ y. rw y)
-
-    same : i / 64 ≡ k / 8
-        → row_bit 64 (set ws (k / 8) new) i ≡ (row_bit 64 ws i || (eqb (i / 8) k && row_bit 8 b i))
-    same q =
-        rw (q, get_or-set_same ws (k / 8) new 0 l, has_bit-or, shifted_bit (get_or b k 0) k i h q, own)
-
-    other : i / 64 ≢ k / 8
-        → row_bit 64 (set ws (k / 8) new) i ≡ (row_bit 64 ws i || (eqb (i / 8) k && row_bit 8 b i))
-    other d =
-        rw (get_or-set_other ws (k / 8) (i / 64) new 0 d, ne_eqb (i / 8) k (λ q. d (omega arith)), or-false)
+Packed b ws k = (i : ℕ) → row_bit 64 ws i ≡ (ltb i (64 * k) && row_bit 8 b i)
 
 -- Before the first byte the words are clear.
 pub packed_start : (b ws : List ℕ) → ((i : ℕ) → row_bit 64 ws i ≡ false) → Packed b ws 0
 packed_start b ws z i = rw (z i, le-ltb i 0 (omega arith))
 
--- A place below byte k, or in it, is one below the next byte.
-one_more : (k i : ℕ) (x : Bool) → (ltb i (8 * k) && x || eqb (i / 8) k && x) ≡ (ltb i (8 * (k + 1)) && x)
-one_more k i x = ⊎_elim later earlier (at-most? (8 * k) i)
-  where
-    earlier : i < 8 * k → (ltb i (8 * k) && x || eqb (i / 8) k && x) ≡ (ltb i (8 * (k + 1)) && x)
-    earlier l =
-        rw (
-          lt-ltb i (8 * k) l,
-          ne_eqb (i / 8) k (omega arith),
-          lt-ltb i (8 * (k + 1)) (omega arith),
-          or-false,
-        )
+-- What is left of bytes b after those of k words: the next up to eight, and the rest.
+pub record Next (b bytes rest : List ℕ) (k : ℕ) : Type 0 where
+  pub parts : drop (8 * k) b ≡ bytes ++ rest
+  pub size : length bytes ≡ min 8 (length (drop (8 * k) b))
+  pub some : 0 < length (drop (8 * k) b)
 
-    later : 8 * k ≤ i → (ltb i (8 * k) && x || eqb (i / 8) k && x) ≡ (ltb i (8 * (k + 1)) && x)
-    later l =
-        rw (le-ltb i (8 * k) l)
-        (⊎_elim
-        (λ (q : i / 8 ≡ k). rw (eq-eqb (i / 8) k q, lt-ltb i (8 * (k + 1)) (omega arith)))
-        (λ (d : i / 8 ≢ k). rw (ne_eqb (i / 8) k d, le-ltb i (8 * (k + 1)) (omega arith)))
-        (equal? (i / 8) k))
+module _ {b bytes rest : List ℕ} {k : ℕ} (u : Next b bytes rest k) where
+  -- Word k has the next byte.
+  pub next_below : 8 * k < length b
+  next_below = omega (arith, u.some, length-drop (8 * k) b)
 
--- With byte k shifted into its word, one byte more stands in the words.
-pub packed_more : (b ws : List ℕ) (k : ℕ) → get_or b k 0 < 256 → k / 8 < length ws → Packed b ws k
-    → Packed b (set ws (k / 8) (bit_or (get_or ws (k / 8) 0) (get_or b k 0 * 2 ^ shift k % 2 ^ 64))) (k + 1)
-packed_more b ws k h l z i = rw (packed_byte b ws k i h l, z i) (one_more k i (row_bit 8 b i))
+  -- The rest is left after those of one word more.
+  pub rest_left : drop (8 * (k + 1)) b ≡ rest
+  rest_left =
+      let more : 8 * (k + 1) ≡ 8 * k + 8 = omega arith in
+      rw (more, ← (drop-drop 8 (8 * k) b), ← (drop_min 8 (drop (8 * k) b)), ← u.size, u.parts)
+      (drop-append_seam bytes rest)
 
--- After the last byte the words have the row of the bytes.
-pub packed_end : (b ws : List ℕ) (k : ℕ) → length b ≤ k → Packed b ws k → (i : ℕ)
+  -- The next bytes have the row of word k.
+  next_row : (i : ℕ) → i < 64 → row_bit 8 bytes i ≡ row_bit 8 b (64 * k + i)
+  next_row i h =
+      let left = drop (8 * k) b in
+      let first : take 8 left ≡ bytes =
+      rw (← (take_min 8 left), ← u.size, u.parts) (take-append_seam bytes rest) in
+      let byte : (64 * k + i) / 8 ≡ 8 * k + i / 8 = omega arith in
+      let bit : (64 * k + i) % 8 ≡ i % 8 = omega arith in
+      rw (byte, bit, ← first, get_or-take 8 left (i / 8) 0 (omega arith), get_or-drop (8 * k) b (i / 8) 0)
+      refl
+
+  -- With word k made of them one word more has its row.
+  pub packed_more : (ws : List ℕ) (n : ℕ) → k < length ws
+      → ((i : ℕ) → i < 64 → has_bit n (63 - i) ≡ row_bit 8 bytes i) → Packed b ws k
+      → Packed b (set ws k n) (k + 1)
+  packed_more ws n h made z i = ⊎_elim same other (equal? (i / 64) k)
+    where
+      same : i / 64 ≡ k → row_bit 64 (set ws k n) i ≡ (ltb i (64 * (k + 1)) && row_bit 8 b i)
+      same q =
+          let place : 64 * k + i % 64 ≡ i = omega arith in
+          rw (q, get_or-set_same ws k n 0 h, lt-ltb i (64 * (k + 1)) (omega arith))
+          (made (i % 64) (omega arith) ∙ rw place at (next_row (i % 64) (omega arith)))
+
+      other : i / 64 ≢ k → row_bit 64 (set ws k n) i ≡ (ltb i (64 * (k + 1)) && row_bit 8 b i)
+      other d =
+          let same = T-ext (ltb i (64 * (k + 1))) (ltb i (64 * k)) (omega tests) (omega tests) in
+          rw (get_or-set_other ws k (i / 64) n 0 d, same) (z i)
+
+-- Where no byte is left the words have the row of the bytes.
+pub packed_end : (b ws : List ℕ) (k : ℕ) → length (drop (8 * k) b) ≡ 0 → Packed b ws k → (i : ℕ)
     → row_bit 64 ws i ≡ row_bit 8 b i
 packed_end b ws k h z i =
+    let all : length b ≤ 8 * k = omega (arith, h, length-drop (8 * k) b) in
     ⊎_elim
-    (λ (l : 8 * k ≤ i). rw (z i, le-ltb i (8 * k) l, row_beyond 8 b i (omega arith)))
-    (λ (l : i < 8 * k). rw (z i, lt-ltb i (8 * k) l))
-    (at-most? (8 * k) i)
+    (λ (l : 64 * k ≤ i). rw (z i, le-ltb i (64 * k) l, row_beyond 8 b i (omega arith)))
+    (λ (l : i < 64 * k). rw (z i, lt-ltb i (64 * k) l))
+    (at-most? (64 * k) i)
 
 -- ---- words into bytes
 
@@ -139,26 +170,21 @@ packed_end b ws k h z i =
 abbrev pub Unpacked : List ℕ → List ℕ → ℕ → Type 0
 Unpacked ws b k = (i : ℕ) → i < 8 * k → row_bit 8 b i ≡ row_bit 64 ws i
 
--- A bit of byte k, shifted down from its word.
-byte_bit : (x k i : ℕ) → i / 8 ≡ k
-    → has_bit (bit_and (x / 2 ^ shift k) 255) (7 - i % 8) ≡ has_bit x (63 - i % 64)
-byte_bit x k i q =
-    let word : i / 64 ≡ k / 8 = omega arith in
-    let place : shift k + (7 - i % 8) ≡ 63 - i % 64 = omega arith in
-    rw (and_mask (x / 2 ^ shift k) 8, has_bit_low, lt-ltb (7 - i % 8) 8 (omega arith), has_bit_shr, place)
-
--- With byte k shifted down from its word, one byte more has the row of the words.
+-- With byte k taken from its word, one byte more has the row of the words.
 pub unpacked_more : (ws b : List ℕ) (k : ℕ) → k < length b → Unpacked ws b k
-    → Unpacked ws (set b k (bit_and (get_or ws (k / 8) 0 / 2 ^ shift k) 255)) (k + 1)
+    → Unpacked ws (set b k (get_or (to_be_bytes w64 (get_or ws (k / 8) 0)) (k % 8) 0)) (k + 1)
 unpacked_more ws b k h z i l = ⊎_elim same other (equal? (i / 8) k)
   where
     new : ℕ
-    new = bit_and (get_or ws (k / 8) 0 / 2 ^ shift k) 255
+    new = get_or (to_be_bytes w64 (get_or ws (k / 8) 0)) (k % 8) 0
 
     same : i / 8 ≡ k → row_bit 8 (set b k new) i ≡ row_bit 64 ws i
     same q =
         let word : k / 8 ≡ i / 64 = omega arith in
-        rw (q, get_or-set_same b k new 0 h, byte_bit (get_or ws (k / 8) 0) k i q, word)
+        let byte : k % 8 ≡ i % 64 / 8 = omega arith in
+        let bit : i % 8 ≡ i % 64 % 8 = omega arith in
+        rw (q, get_or-set_same b k new 0 h, word, byte, bit)
+        (word_row (get_or ws (i / 64) 0) (i % 64) (omega arith))
 
     other : i / 8 ≢ k → row_bit 8 (set b k new) i ≡ row_bit 64 ws i
     other d = rw (get_or-set_other b k (i / 8) new 0 d) (z i (omega arith))

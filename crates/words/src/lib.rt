@@ -3,7 +3,7 @@
 #![tactic(auto)]
 
 ghost use Rattle.std.specs.Prelude.{ℕ, ◌*◌, ◌-◌, ◌<◌, ◌≤◌, ◌≡◌, false, ◌||◌, eqb, length};
-ghost use Rattle.model.specs.Lists.{filter, from};
+ghost use Rattle.model.specs.Lists.{filter, from, has_bit};
 ghost use Rattle.laws.specs.BitRow.{row_bit};
 
 // Whether event e is in the set: its bit, shifted down to the lowest place.
@@ -23,25 +23,35 @@ pub fn put(words: &mut [u64], e: usize)
     words[(e - 1) / 64] |= 1 << (63 - (e - 1) % 64);
 }
 
-// The bytes of a lent set as words: clears these, and shifts each byte up to its place in its word.
+// Up to eight bytes as a word, the first at its top; the places after them are clear.
+fn word_of(bytes: &[u8]) -> u64
+    requires { length bytes.now ≤ 8 }
+    ensures { (i : ℕ) → i < 64 → has_bit result (63 - i) ≡ row_bit 8 bytes.now i }
+{
+    let mut padded = [0; 8];
+    padded[..bytes.len()].copy_from_slice(bytes);
+    u64::from_be_bytes(padded)
+}
+
+// The bytes of a lent set as words: clears these, and makes one of each eight bytes, and of what is left.
 pub fn pack(set: &[u8], words: &mut [u64])
     requires { length set.now ≤ 8 * length words.old }
     ensures { (i : ℕ) → row_bit 64 words.new i ≡ row_bit 8 set.now i }
 {
     words.fill(0);
-    for (k, byte) in set.iter().enumerate() {
-        words[k / 8] |= (*byte as u64) << (56 - 8 * (k % 8));
+    for (k, bytes) in set.chunks(8).enumerate() {
+        words[k] = word_of(bytes);
     }
 }
 
-// The words as the bytes of a set: shifts each byte down from its place in its word.
+// The words as the bytes of a set: eight of each word.
 pub fn unpack(words: &[u64], set: &mut [u8])
     requires { length set.old ≤ 8 * length words.now }
     ensures { (i : ℕ) → i < 8 * length set.old
         → row_bit 8 set.new i ≡ row_bit 64 words.now i }
 {
     for (k, byte) in set.iter_mut().enumerate() {
-        *byte = ((words[k / 8] >> (56 - 8 * (k % 8))) & 255) as u8;
+        *byte = words[k / 8].to_be_bytes()[k % 8];
     }
 }
 

@@ -9,6 +9,7 @@ use Rattle.model.specs.Lists.{all, from}
 use Rattle.model.specs.Recording.{trace}
 use Rattle.model.specs.EventSet.{set_length, lent_bit}
 use Rattle.laws.proofs.Results.{passed_on, is_refused, is_passed}
+use Rattle.closure.proofs.Sets.{clear_words}
 use Rattle.closure.proofs.Answers.{close_unchecked, close-length, close_spare, close_closed}
 use Rattle.closure.proofs.close.Goals as goal
 use Rattle.closure.proofs.close.Goals.{After-len-n, After-spare_clear, Else-set-n}
@@ -28,8 +29,9 @@ is-clear : (c : goal.After-spare_clear)
     let n = length (trace c.args.recording.now) in
     c.spare_clear.result ≡ all (λ e. not (lent_bit set e)) (from (suc n) (8 * length set - n))
 is-clear c =
-    rw (add-one c.len-n.result, counted (goal.at.After-spare_clear c).After-len-n)
-    at c.spare_clear.ensures
+    (rw (add-one c.len-n.result, counted (goal.at.After-spare_clear c).After-len-n)
+    at c.spare_clear.ensures)
+    ∙ clear_words c.args.set.now c.pack.new.words c.pack.ensures _
 
 pub returns-in_err-records : goal.returns-in_err-records
 returns-in_err-records c =
@@ -64,7 +66,7 @@ close_set-requires c =
     let yes = sym (is-clear (goal.at.close_set-requires c).After-spare_clear)
     ∙ c.if-not-spare_clear.false in
     rw (c.new.ensures, c.in_ok-records.ensures.events)
-    (sized (goal.at.close_set-requires c).Else-set-n, rw yes tt)
+    (sized (goal.at.close_set-requires c).Else-set-n, c.pack.ensures, rw yes tt)
 
 pub returns : goal.returns
 returns c =

@@ -1,13 +1,12 @@
 -- `load::depth_after` meets its contract: only an acquire or release of the lock changes its depth.
 -- Assumes nothing.
 use Prim.Native.Nat.{◌+◌, ◌-◌, ◌<◌}
-use mathlib.Core.Path.{◌≡◌}
-use mathlib.Core.Logic.{⊎_elim}
 use native.Mathlib.Omega.{arith}
 use Rattle.model.specs.Recording.{decode_all}
 use Rattle.laws.specs.Walked.{LockDepth}
 use Rattle.laws.proofs.Questions.{events_sound}
-use Rattle.recording.specs.declared.Op.TheVariants.{Read, Write}
+use Rattle.recording.specs.declared.Op.TheVariants.{Acquire, Release}
+use Rattle.recording.proofs.Laws.{code_apart, code_lt}
 use Rattle.load.proofs.Laws.{Coming, depth_below, access-depth, other-depth, enter-depth, leave-depth}
 use Rattle.load.proofs.depth_after.Goals as goal
 use Rattle.load.proofs.depth_after.Goals.{Start, In-Release}
@@ -34,13 +33,6 @@ pub overflow_add-result : goal.overflow_add-result
 overflow_add-result c =
     omega (arith, depth_below (coming (goal.at.overflow_add-result c).Start) c.requires.0, c.requires)
 
-pub returns-in-Read : goal.returns-in-Read
-returns-in-Read c =
-    let op = c.operation.ensures in
-    access-depth (coming (goal.at.returns-in-Read c).Start)
-    (⊎_elim (λ (q : c.operation.result ≡ Read). omega (arith, rw q at op))
-    (λ (q : c.operation.result ≡ Write). omega (arith, rw q at op)) c.in-Read.is)
-
 pub returns-in-Acquire : goal.returns-in-Acquire
 returns-in-Acquire c =
     enter-depth (coming (goal.at.returns-in-Acquire c).Start) c.object.ensures.1
@@ -51,3 +43,11 @@ overflow_sub-result c = omega (arith, (back (goal.at.overflow_sub-result c).In-R
 
 pub returns-in-Release : goal.returns-in-Release
 returns-in-Release c = (back (goal.at.returns-in-Release c).In-Release).1
+
+pub returns-in_default : goal.returns-in_default
+returns-in_default c =
+    let k = c.operation.result in
+    let a = code_apart k Acquire c.in_default.not-Acquire in
+    let b = code_apart k Release c.in_default.not-Release in
+    access-depth (coming (goal.at.returns-in_default c).Start)
+    (omega (arith, c.operation.ensures, code_lt k, a, b))

@@ -6,4 +6,4 @@ use Rattle.words.proofs.unpack.Goals as goal
 pub loop-k-preserved : goal.loop-k-preserved
 loop-k-preserved c =
     let k = c.loop-k in
-    unpacked_more c.args.words.now k.set k.k (omega arith) k.invariant
+    rw (← c.to_be_bytes.ensures) at (unpacked_more c.args.words.now k.set k.k (omega arith) k.invariant)
