@@ -1,4 +1,5 @@
--- `deadlock::pattern::begins` meets its contract: the number's range, and what it is the number of. Assumes nothing.
+-- `deadlock::pattern::begins` meets its contract: the number's range, and what it is the number of.
+-- Assumes nothing.
 use Prim.Native.Nat.{◌≤◌}
 use native.Mathlib.Omega.{arith}
 use lib.ListN.{length}

@@ -1,5 +1,5 @@
--- `deadlock::completes` meets its contract: what is left completes the chain so far exactly where all does.
--- Assumes nothing.
+-- `deadlock::pattern::completes` meets its contract: what is left completes the chain so far exactly where
+-- all does. Assumes nothing.
 use Prim.Native.Nat.{◌+◌}
 use mathlib.Core.Bool.{◌&&◌}
 use mathlib.Core.Path.{◌≡◌, sym, ap, ◌∙◌}

@@ -16,9 +16,6 @@ use Rattle.deadlock.proofs.pattern.Pattern.reach.Goals as goal
 pub loop-i-init : goal.loop-i-init
 loop-i-init c = rw c.empty-frontier.ensures (before-start _ _ _ refl refl)
 
-pub extend-requires : goal.extend-requires
-extend-requires c = let (h, k, is) = c.event.ensures in (c.loop-i.invariant.settled, h, k)
-
 pub loop-i-preserved : goal.loop-i-preserved
 loop-i-preserved c =
     let l = c.loop-i in
