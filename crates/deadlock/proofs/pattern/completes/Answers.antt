@@ -39,8 +39,8 @@ next c =
     let k = c.loop-i in
     let ns = numbers c.args.bytes.now in
     let size = numbers-length c.args.bytes.now in
-    rw c.number-e.ensures (completing_next (decode_all c.args.trace.now.records.bytes.now) ns (of_events [] k.chain)
-    k.i (omega (arith, c.loop-i-test.true)))
+    rw c.number-e.ensures (completing_next (decode_all c.args.trace.now.records.bytes.now) ns
+    (of_events [] k.chain) k.i (omega (arith, c.loop-i-test.true)))
 
 pub returns-then-not-joins : goal.returns-then-not-joins
 returns-then-not-joins c =

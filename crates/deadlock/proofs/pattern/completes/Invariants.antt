@@ -17,5 +17,5 @@ invariant-loop-i l =
     (l.chain.first ≡ l.a) × (1 ≤ l.chain.last) × (2 * l.chain.last ≤ length l.trace.records.bytes.now)
     × T (is_acquire (decode_all l.trace.records.bytes.now) l.chain.last)
     × (completing (decode_all l.trace.records.bytes.now) (of_events [] l.chain) (drop l.i (numbers l.bytes))
-    ≡ completing (decode_all l.trace.records.bytes.now) (start (signature (decode_all l.trace.records.bytes.now)) l.a)
-    (drop 1 (numbers l.bytes)))
+    ≡ completing (decode_all l.trace.records.bytes.now)
+    (start (signature (decode_all l.trace.records.bytes.now)) l.a) (drop 1 (numbers l.bytes)))
