@@ -137,23 +137,22 @@ module _ (σ : Trace) (p : List ℕ) where
           ⊎_elim (λ a. omega (tests, z.least, numbers-length p))
           (λ a. omega (tests, z.most, numbers-length p)) h
 
-  module _ (whole : length p % 2 ≡ 0) (least : 4 ≤ length p) (most : length p ≤ 32) where
+  module _ (whole : length p % 2 ≡ 0) (least : 4 ≤ length p) (most : length p ≤ 32)
+      {a : ℕ} (first : a ≡ get_or (numbers p) 0 0) where
     -- The first number, and what the others must complete.
     lends_is : (is_whole p && is_pattern σ (numbers p))
-        ≡ (is_event σ (get_or (numbers p) 0 0) && (is_acquire σ (get_or (numbers p) 0 0)
-        && completing σ (start (signature σ) (get_or (numbers p) 0 0)) (drop 1 (numbers p))))
+        ≡ (is_event σ a && (is_acquire σ a && completing σ (start (signature σ) a) (drop 1 (numbers p))))
     lends_is =
         let count = numbers-length p in
         let rest = length-drop 1 (numbers p) in
-        rw (eq-eqb (length p % 2) 0 whole)
+        rw (eq-eqb (length p % 2) 0 whole, first)
         (ap (is_pattern σ) (drop-cons (numbers p) 0 0 (omega arith))
         ∙ pattern-completing σ (get_or (numbers p) 0 0) (drop 1 (numbers p)) (omega arith) (omega arith))
 
     -- A first number that is no acquire.
-    pub lends_first : (is_event σ (get_or (numbers p) 0 0) && is_acquire σ (get_or (numbers p) 0 0)) ≡ false
+    pub lends_first : (is_event σ a && is_acquire σ a) ≡ false
         → false ≡ (is_whole p && is_pattern σ (numbers p))
-    lends_first n = sym (lends_is ∙ drops (is_event σ (get_or (numbers p) 0 0))
-        (is_acquire σ (get_or (numbers p) 0 0)) _ n)
+    lends_first n = sym (lends_is ∙ drops (is_event σ a) (is_acquire σ a) _ n)
       where
         drops : (x y z : Bool) → (x && y) ≡ false → (x && (y && z)) ≡ false
         drops true true z h = absurd (true≢false h)
@@ -161,11 +160,10 @@ module _ (σ : Trace) (p : List ℕ) where
         drops false y z h = refl
 
     -- An acquire leaves it to the others.
-    pub lends_rest : (is_event σ (get_or (numbers p) 0 0) && is_acquire σ (get_or (numbers p) 0 0)) ≡ true
-        → completing σ (start (signature σ) (get_or (numbers p) 0 0)) (drop 1 (numbers p))
-        ≡ (is_whole p && is_pattern σ (numbers p))
+    pub lends_rest : (is_event σ a && is_acquire σ a) ≡ true
+        → completing σ (start (signature σ) a) (drop 1 (numbers p)) ≡ (is_whole p && is_pattern σ (numbers p))
     lends_rest y =
-        let t : T (is_event σ (get_or (numbers p) 0 0) && is_acquire σ (get_or (numbers p) 0 0)) = rw y tt in
-        let e = is_true (is_event σ (get_or (numbers p) 0 0)) (search parts) in
-        let a = is_true (is_acquire σ (get_or (numbers p) 0 0)) (search parts) in
-        sym (lends_is ∙ rw (e, a))
+        let t : T (is_event σ a && is_acquire σ a) = rw y tt in
+        let e = is_true (is_event σ a) (search parts) in
+        let q = is_true (is_acquire σ a) (search parts) in
+        sym (lends_is ∙ rw (e, q))

@@ -1,28 +1,29 @@
-// Deadlock patterns: whether lent bytes are one, its verdict by the closure of its predecessors, and the
-// schedule that witnesses it. A pattern's numbers are two bytes each.
+// Deadlock patterns: the chains that they complete, the verdict on a lent one by the closure of its
+// predecessors, and the schedule that witnesses it.
 #![tactic(auto)]
 
-ghost use Rattle.std.specs.Prelude.{ℕ, ◌+◌, ◌*◌, ◌/◌, ◌^◌, ◌<◌, ◌≤◌, ◌≡◌, not, ◌&&◌, List, [], ◌∷◌, ◌++◌, T};
-ghost use Rattle.std.specs.Prelude.{leb, length, get_or, drop, replicate};
+mod pattern;
+
+ghost use Rattle.std.specs.Prelude.{ℕ, ◌+◌, ◌*◌, ◌^◌, ◌<◌, ◌≤◌, ◌≡◌, not, List, [], ◌∷◌, ◌++◌, T, leb};
+ghost use Rattle.std.specs.Prelude.{length, get_or};
 ghost use Rattle.std.specs.Int.Bits.{bit_or};
 ghost use Rattle.std.proofs.lemmas.List.Edits.{sets};
 ghost use Rattle.model.specs.Lists.{all, has_bit};
-ghost use Rattle.model.specs.Bytes.{encode, numbers, is_whole};
-ghost use Rattle.model.specs.Trace.{tasks, task, object, is_event, is_acquire};
+ghost use Rattle.model.specs.Bytes.{encode};
+ghost use Rattle.model.specs.Trace.{task, object, is_acquire};
 ghost use Rattle.model.specs.Recording.{decode_all};
 ghost use Rattle.model.specs.Relations.{held};
-ghost use Rattle.model.specs.Pattern.{is_pattern};
 ghost use Rattle.model.specs.Calls.Verdict.{verdict};
 ghost use Rattle.model.specs.Calls.Witness.{witness, witness_out};
-ghost use Rattle.laws.specs.Sizes.{table_length};
 ghost use Rattle.model.specs.Answers.{verdict_of, witness_of};
-ghost use Rattle.laws.specs.Chain.{signature, start, add, fits, closes, completing};
-ghost use Rattle.laws.specs.Frontier.{Before};
+ghost use Rattle.laws.specs.Sizes.{table_length};
+ghost use Rattle.laws.specs.Chain.{signature, start, add, fits, closes};
 ghost use Rattle.deadlock.specs.Judged.{of_events, joins, Decided, Gives, behind_at, behind};
 ghost use Rattle.deadlock.specs.Delivered.{delivered, delivered_out, witness_from, witness_out_from};
 
 use frontier::Frontier;
 use model::{Question, Refusal, Verdict};
+pub use pattern::Pattern;
 use recording::{Op, Records};
 use relations::{Tables, Trace};
 
@@ -67,20 +68,6 @@ pub fn is_acquire(trace: &Trace, mask: u64, e: usize) -> bool
         }
         _ => false,
     }
-}
-
-// The number e is that of an outer acquire, with which a pattern may begin.
-fn begins(trace: &Trace, e: usize) -> bool
-    ensures { result ≡ (is_event (decode_all trace.now.records.bytes.now) e
-        && is_acquire (decode_all trace.now.records.bytes.now) e) }
-{
-    if e == 0 {
-        return false;
-    }
-    if trace.len() < e {
-        return false;
-    }
-    is_acquire(trace, trace.held(e), e)
 }
 
 impl Chain {
@@ -159,60 +146,6 @@ impl Chain {
     }
 }
 
-// The numbers after the first complete the chain of the acquire a: each joins the chain before it, and the
-// last one closes it.
-fn completes(trace: &Trace, pattern: &[u8], a: usize) -> bool
-    requires { (1 ≤ a) × (2 * a ≤ length trace.now.records.bytes.now)
-        × T (is_acquire (decode_all trace.now.records.bytes.now) a)
-        × (2 ≤ length pattern.now) }
-    ensures { result ≡ completing (decode_all trace.now.records.bytes.now)
-        (start (signature (decode_all trace.now.records.bytes.now)) a) (drop 1 (numbers pattern.now)) }
-{
-    let mut chain = Chain::start(trace, a);
-    for i in 1..pattern.len() / 2 {
-        let e = recording::number(pattern, i) as usize;
-        if !chain.joins(trace, e) {
-            return false;
-        }
-        chain = chain.add(trace, e);
-    }
-    chain.closes(trace)
-}
-
-// Question 10: the lent bytes are a deadlock pattern of the records, smallest event first.
-pub fn lends_pattern(trace: &Trace, pattern: &[u8]) -> bool
-    ensures { result ≡ (is_whole pattern.now
-        && is_pattern (decode_all trace.now.records.bytes.now) (numbers pattern.now)) }
-{
-    if pattern.len() % 2 != 0 {
-        return false;
-    }
-    if pattern.len() < 4 {
-        return false;
-    }
-    if 32 < pattern.len() {
-        return false;
-    }
-    let a = recording::number(pattern, 0) as usize;
-    if !begins(trace, a) {
-        return false;
-    }
-    completes(trace, pattern, a)
-}
-
-// The frontier of the closure of the predecessors of the pattern's events, to which it advances event by
-// event.
-fn reach(trace: &Trace, pattern: &[u8]) -> Frontier
-    requires { T (all (is_event (decode_all trace.now.records.bytes.now)) (numbers pattern.now)) }
-    ensures { Before (decode_all trace.now.records.bytes.now) (numbers pattern.now) result.front result.latest }
-{
-    let mut frontier = Frontier::empty();
-    for i in 0..pattern.len() / 2 {
-        frontier.extend(trace, recording::number(pattern, i) as usize);
-    }
-    frontier
-}
-
 // None of `count` events, which the closure gives by their places from 0 on, is in the set of the frontier.
 pub fn avoids<F: Fn(usize) -> u16>(
     trace: &Trace,
@@ -237,17 +170,15 @@ pub fn avoids<F: Fn(usize) -> u16>(
 
 // Decides the lent bytes: question 10, and of a deadlock the frontier of the closure of its events'
 // predecessors.
-pub fn decide(trace: &Trace, pattern: &[u8]) -> Result<Option<Frontier>, Question>
-    ensures { Decided (decode_all trace.now.records.bytes.now) pattern.now result }
+pub fn decide(trace: &Trace, bytes: &[u8]) -> Result<Option<Frontier>, Question>
+    ensures { Decided (decode_all trace.now.records.bytes.now) bytes.now result }
 {
-    if !lends_pattern(trace, pattern) {
-        return Err(Question::Pattern);
-    }
-    let frontier = reach(trace, pattern);
+    let pattern = Pattern::read(trace, bytes)?;
+    let frontier = pattern.reach();
     if avoids(
-        trace,
-        pattern.len() / 2,
-        |i| recording::number(pattern, i),
+        pattern.trace,
+        pattern.len(),
+        |i| pattern.event(i),
         &frontier,
     ) {
         return Ok(Some(frontier));

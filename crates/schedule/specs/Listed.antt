@@ -1,15 +1,12 @@
--- The tables of a walk through a schedule, by what they hold of what is listed, and what is decided of the
--- lent bytes. `before` is what is listed, the latest first.
-use Rattle.std.specs.Prelude.{ℕ, ◌≤◌, ◌<◌, ◌≡◌, ◌≢◌, Bool, true, cond, ◌&&◌, Option, Some, None, T, leb}
-use Rattle.std.specs.Prelude.{length, get_or}
+-- The tables of a walk through a schedule, by what they hold of what is listed. `before` is what is listed,
+-- the latest first.
+use Rattle.std.specs.Prelude.{ℕ, ◌≤◌, ◌<◌, ◌≡◌, ◌≢◌, true, T, leb, length, get_or}
 use mathlib.Core.List.{List, Memᴰ}
 use Rattle.model.specs.Lists.{member}
-use Rattle.model.specs.Bytes.{numbers, is_whole}
 use Rattle.model.specs.Trace.{Trace, locks, variables, task, object, is_acquire}
 use Rattle.model.specs.Tasks.{starts}
 use Rattle.model.specs.Relations.{matching}
-use Rattle.model.specs.Pattern.{is_pattern}
-use Rattle.model.specs.Schedule.{latest_write, sync_preserving, witnesses}
+use Rattle.model.specs.Schedule.{latest_write, sync_preserving}
 use Rattle.laws.specs.Frontier.{Frontier}
 use Rattle.schedule.specs.declared.Progress.{Progress}
 
@@ -46,10 +43,3 @@ pub record Listed (σ : Trace) (before : List ℕ) (progress : Progress) : Type 
 pub record Kept (σ : Trace) (ρ : List ℕ) (progress : Progress) : Type 0 where
   pub keeps : sync_preserving σ ρ ≡ true
   pub up_to : UpTo σ ρ progress.last
-
--- What is decided of the bytes of a pattern and a schedule: the checker's answer, or none for no pattern
--- (question 10 is answered "no").
-unfoldable pub answered : Trace → List ℕ → List ℕ → Option Bool
-answered σ p ρ =
-    cond (is_whole p && is_pattern σ (numbers p))
-    (Some (is_whole ρ && witnesses σ (numbers ρ) (numbers p))) None

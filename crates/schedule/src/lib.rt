@@ -3,18 +3,19 @@
 #![tactic(auto)]
 
 ghost use Rattle.std.specs.Prelude.{ℕ, ◌*◌, ◌<◌, ◌≤◌, ◌≡◌, ◌&&◌, false, List, ◌∷◌, T, length, get_or};
-ghost use Rattle.std.specs.Prelude.{replicate, MatchOption};
+ghost use Rattle.std.specs.Prelude.{MatchOption};
 ghost use Rattle.model.specs.Lists.{all};
-ghost use Rattle.model.specs.Trace.{tasks, locks, variables, object, is_event};
+ghost use Rattle.model.specs.Trace.{locks, object};
 ghost use Rattle.model.specs.Recording.{decode_all};
 ghost use Rattle.model.specs.Bytes.{numbers, is_whole};
 ghost use Rattle.model.specs.Schedule.{may_follow, sync_preserving, witnesses};
 ghost use Rattle.model.specs.Calls.CheckSchedule.{check_schedule};
 ghost use Rattle.model.specs.Answers.{checked_of};
-ghost use Rattle.schedule.specs.Listed.{Kept, Listed, answered};
+ghost use Rattle.schedule.specs.Listed.{Kept, Listed};
 ghost use Rattle.schedule.specs.Next.{is_listed, is_ready, is_next, is_unlocked};
 
-use model::{Question, Refusal};
+use deadlock::Pattern;
+use model::Refusal;
 use recording::{Op, Records};
 use relations::{Tables, Trace};
 
@@ -130,13 +131,12 @@ impl Progress {
     }
 
     // Whether every event of the pattern comes next in its task after what is listed.
-    fn leaves_next(&self, trace: &Trace, pattern: &[u8]) -> bool
-        requires { T (all (is_event (decode_all trace.now.records.bytes.now)) (numbers pattern.now)) }
-        ensures { result ≡ all (is_next (decode_all trace.now.records.bytes.now) self.now.last)
-            (numbers pattern.now) }
+    fn leaves_next(&self, pattern: &Pattern) -> bool
+        ensures { result ≡ all (is_next (decode_all pattern.now.trace.now.records.bytes.now) self.now.last)
+            (numbers pattern.now.bytes.now) }
     {
-        for i in 0..pattern.len() / 2 {
-            if !self.is_next(trace, recording::number(pattern, i)) {
+        for i in 0..pattern.len() {
+            if !self.is_next(pattern.trace, pattern.event(i)) {
                 return false;
             }
         }
@@ -167,29 +167,18 @@ fn keeps_order(trace: &Trace, schedule: &[u8]) -> Option<Progress>
 
 // Whether the schedule witnesses the pattern: its length is even, it is order-keeping, and it leaves every
 // event of the pattern next.
-pub fn witnessed(trace: &Trace, pattern: &[u8], schedule: &[u8]) -> bool
-    requires { T (all (is_event (decode_all trace.now.records.bytes.now)) (numbers pattern.now)) }
-    ensures { result ≡ (is_whole schedule.now && witnesses (decode_all trace.now.records.bytes.now)
-        (numbers schedule.now) (numbers pattern.now)) }
+pub fn witnessed(pattern: &Pattern, schedule: &[u8]) -> bool
+    ensures { result ≡ (is_whole schedule.now
+        && witnesses (decode_all pattern.now.trace.now.records.bytes.now) (numbers schedule.now)
+        (numbers pattern.now.bytes.now)) }
 {
     if schedule.len() % 2 != 0 {
         return false;
     }
-    match keeps_order(trace, schedule) {
+    match keeps_order(pattern.trace, schedule) {
         None => false,
-        Some(progress) => progress.leaves_next(trace, pattern),
+        Some(progress) => progress.leaves_next(pattern),
     }
-}
-
-// Decides the bytes of a pattern and a schedule: whether the second witnesses the first, or nothing where
-// that is no pattern.
-fn decide(trace: &Trace, pattern: &[u8], schedule: &[u8]) -> Option<bool>
-    ensures { result ≡ answered (decode_all trace.now.records.bytes.now) pattern.now schedule.now }
-{
-    if !deadlock::lends_pattern(trace, pattern) {
-        return None;
-    }
-    Some(witnessed(trace, pattern, schedule))
 }
 
 // Checks a proposed schedule for a lent pattern: question 10, then whether the schedule is order-keeping and
@@ -200,5 +189,6 @@ pub fn check_schedule(recording: &[u8], pattern: &[u8], schedule: &[u8]) -> Resu
     let records = Records::read(recording)?;
     let mut tables = Tables::blank();
     let trace = Trace::new(&records, &mut tables);
-    decide(&trace, pattern, schedule).ok_or(Question::Pattern.into())
+    let pattern = Pattern::read(&trace, pattern)?;
+    Ok(witnessed(&pattern, schedule))
 }

@@ -6,13 +6,13 @@ use Rattle.schedule.proofs.witnessed.Goals as goal
 
 pub returns-in-None : goal.returns-in-None
 returns-in-None c =
-    let a = c.args in
-    witness_refused a.trace.now.records.bytes.now a.schedule.now a.pattern.now c.if-schedule-ne0.false
+    let p = c.args.pattern.now in
+    witness_refused p.trace.now.records.bytes.now c.args.schedule.now p.bytes.now c.if-schedule-ne0.false
     c.in-None.ensures
 
 pub returns-in-Some : goal.returns-in-Some
 returns-in-Some c =
-    let a = c.args in
+    let p = c.args.pattern.now in
     c.leaves_next.ensures
-    ∙ witness_decided a.trace.now.records.bytes.now a.schedule.now a.pattern.now c.if-schedule-ne0.false
-    a.trace.now.records.accepted c.in-Some.ensures c.requires
+    ∙ witness_decided p.trace.now.records.bytes.now c.args.schedule.now p.bytes.now c.if-schedule-ne0.false
+    p.trace.now.records.accepted c.in-Some.ensures p.events

@@ -1,10 +1,11 @@
--- `deadlock::begins` meets its contract: the number's range, and what it is the number of. Assumes nothing.
+-- `deadlock::pattern::begins` meets its contract: the number's range, and what it is the number of.
+-- Assumes nothing.
 use Prim.Native.Nat.{◌≤◌}
 use native.Mathlib.Omega.{arith}
 use lib.ListN.{length}
 use Rattle.model.specs.Recording.{decode_all}
 use Rattle.laws.proofs.Trace.{is_event_true, is_event_false, decode_all-length}
-use Rattle.deadlock.proofs.begins.Goals as goal
+use Rattle.deadlock.proofs.pattern.begins.Goals as goal
 
 pub returns-then-e-eq0 : goal.returns-then-e-eq0
 returns-then-e-eq0 c =
