@@ -17,7 +17,7 @@ use Rattle.sections.proofs.OpenSections.kind_of.Goals.{After-operation}
 -- The event with its operation and object.
 coming : (c : goal.After-operation) {op : ℕ} → op ≡ (at (decode_all c.args.records.now.bytes.now) c.args.e).op
     → op < 4
-    → Coming (decode_all c.args.records.now.bytes.now) c.args.e op c.object-l.result c.args.self.now.depths
+    → Coming (decode_all c.args.records.now.bytes.now) c.args.e op c.object-l.result c.args.self.now.locks
 coming c is small =
     let r = c.args.records.now in record {
       sound = events_sound r.bytes.now r.accepted;
