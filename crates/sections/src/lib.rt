@@ -73,24 +73,10 @@ impl OpenSections {
         match recording::operation(records.bytes, e) {
             Op::Read => Kind::Read,
             Op::Write => Kind::Write,
-            Op::Acquire => {
-                if 64 <= l {
-                    return Kind::Uncounted;
-                }
-                if !recording::in_mask(self.held_locks(records, e), l as u64) {
-                    return Kind::Acquire;
-                }
-                Kind::Uncounted
-            }
-            Op::Release => {
-                if 64 <= l {
-                    return Kind::Uncounted;
-                }
-                if self.locks[l].depth == 1 {
-                    return Kind::Release;
-                }
-                Kind::Uncounted
-            }
+            _ if 64 <= l => Kind::Uncounted,
+            Op::Acquire if !recording::in_mask(self.held_locks(records, e), l as u64) => Kind::Acquire,
+            Op::Release if self.locks[l].depth == 1 => Kind::Release,
+            _ => Kind::Uncounted,
         }
     }
 
