@@ -100,12 +100,13 @@ impl Latest {
         self.tasks[recording::task(records.bytes, e) as usize].event = e as u16;
         match recording::operation(records.bytes, e) {
             Op::Write => self.writes[o] = e as u16,
-            Op::Acquire => {
+            other => {
                 if 64 <= o {
-                    self.tasks[o - 64].start = e as u16;
+                    if let Op::Acquire = other {
+                        self.tasks[o - 64].start = e as u16;
+                    }
                 }
             }
-            _ => {}
         }
     }
 }

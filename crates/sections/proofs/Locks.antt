@@ -149,8 +149,8 @@ module _ {σ : Trace} {e : ℕ} {k : K.Kind} {sections : OpenSections} (u : OfKi
     }
 
     -- and a record that does not count at most the depths.
-    pub depth_noted : kind_code k ≡ uncounted_kind → {table : List Section} → KeptDepths σ (e + 1) (depths table)
-        → acquires table ≡ acquires sections.locks
+    pub depth_noted : kind_code k ≡ uncounted_kind → {table : List Section}
+        → KeptDepths σ (e + 1) (depths table) → acquires table ≡ acquires sections.locks
         → OpenBefore σ (e + 1) (record { locks = table; locksets = sections.locksets })
     depth_noted a z left = record {
       depth = z;

@@ -74,7 +74,8 @@ impl OpenSections {
             Op::Read => Kind::Read,
             Op::Write => Kind::Write,
             _ if 64 <= l => Kind::Uncounted,
-            Op::Acquire if !recording::in_mask(self.held_locks(records, e), l as u64) => Kind::Acquire,
+            Op::Acquire if !recording::in_mask(self.held_locks(records, e), l as u64) =>
+                Kind::Acquire,
             Op::Release if self.locks[l].depth == 1 => Kind::Release,
             _ => Kind::Uncounted,
         }
