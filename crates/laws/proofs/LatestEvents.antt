@@ -3,7 +3,7 @@
 use Prim.Native.Nat.{ℕ, suc, ◌<◌}
 use mathlib.Core.Path.{◌≡◌, ◌∙◌}
 use mathlib.Core.Logic.{⊎_elim, ◌≢◌}
-use mathlib.Core.Bool.{Bool, true, false, cond, not, ◌&&◌, and-false}
+use mathlib.Core.Bool.{Bool, true, false, not, ◌&&◌, and-false}
 use mathlib.Core.List.{List}
 use lib.Dec.{T, eqb}
 use lib.ListN.{length, get_or, set, replicate, length-set, length-replicate, get_or-replicate}
@@ -12,7 +12,7 @@ use borrow.Author.Tests.{eq-eqb, ne_eqb}
 use Rattle.model.specs.Lists.{last_before}
 use Rattle.model.specs.Trace.{Trace, task, object, is_read, is_write, same_object}
 use Rattle.model.specs.Tasks.{is_start, is_join, target, starts, joins}
-use Rattle.model.specs.Relations.{latest_of, start_of, join_of, last_of, writer}
+use Rattle.model.specs.Relations.{latest_of, start_of, join_of, writer}
 use Rattle.model.specs.WellFormed.{is_new, is_over}
 use Rattle.laws.specs.Walked.{LatestEvents}
 use Rattle.laws.proofs.Tests.{decided, equal?, is_true}
@@ -84,22 +84,16 @@ module _ (σ : Trace) (e : ℕ) (table : List ℕ) where
   latest_over z h = rw (latest-join_of z (task σ e) h)
 
 module _ (σ : Trace) (e : ℕ) (table starting : List ℕ) (z : LatestEvents (λ f. true) (task σ) e table)
-    (s : LatestEvents (is_start σ) (target σ) e starting) where
-  -- The last event of a task, or its start.
-  pub latest_last : (t : ℕ) → t < length table → t < length starting
-      → cond (eqb (get_or table t 0) 0) (get_or starting t 0) (get_or table t 0) ≡ last_of σ e t
-  unfolding last_of
-  latest_last t h k = rw (latest_of_lem σ e table z t h, latest-start_of σ e starting s t k)
-
-  module _ (joining : List ℕ) (j : LatestEvents (is_join σ) (target σ) e joining) where
-    -- A start's task is new where no table has it, and it is not the start's own.
-    pub latest_new : target σ e < length table → target σ e < length starting → target σ e < length joining
-        → is_new σ e ≡ (not (eqb (target σ e) (task σ e)) && eqb (get_or starting (target σ e) 0) 0
-        && eqb (get_or joining (target σ e) 0) 0 && eqb (get_or table (target σ e) 0) 0)
-    unfolding is_new
-    latest_new h k l =
-        rw (
-          latest_of_lem σ e table z (target σ e) h,
-          latest-start_of σ e starting s (target σ e) k,
-          latest-join_of σ e joining j (target σ e) l,
-        )
+    (s : LatestEvents (is_start σ) (target σ) e starting) (joining : List ℕ)
+    (j : LatestEvents (is_join σ) (target σ) e joining) where
+  -- A start's task is new where no table has it, and it is not the start's own.
+  pub latest_new : target σ e < length table → target σ e < length starting → target σ e < length joining
+      → is_new σ e ≡ (not (eqb (target σ e) (task σ e)) && eqb (get_or starting (target σ e) 0) 0
+      && eqb (get_or joining (target σ e) 0) 0 && eqb (get_or table (target σ e) 0) 0)
+  unfolding is_new
+  latest_new h k l =
+      rw (
+        latest_of_lem σ e table z (target σ e) h,
+        latest-start_of σ e starting s (target σ e) k,
+        latest-join_of σ e joining j (target σ e) l,
+      )

@@ -11,13 +11,24 @@ ghost use Rattle.order.specs.Kept.{LatestBefore};
 
 use recording::{Op, Records};
 
-// What the order of an event asks for of the earlier ones: the latest event of each task, its start, and the
-// latest write of each variable, or 0.
+// Of a task its latest event and its start, or 0.
+#[derive(Clone, Copy)]
+pub struct TaskEvents {
+    pub event: u16,
+    pub start: u16,
+}
+
+// What the order of an event asks for of the earlier ones: the events of each task, and the latest write of
+// each variable, or 0.
 #[derive(Drop)]
 pub struct Latest {
-    pub events: [u16; 16],
-    pub starts: [u16; 16],
+    pub tasks: [TaskEvents; 16],
     pub writes: [u16; 1024],
+}
+
+impl TaskEvents {
+    // Those of a task that has none.
+    pub const NONE: TaskEvents = TaskEvents { event: 0, start: 0 };
 }
 
 impl Latest {
@@ -26,8 +37,7 @@ impl Latest {
         ensures { (σ : Trace) → LatestBefore σ 1 result }
     {
         Latest {
-            events: [0; 16],
-            starts: [0; 16],
+            tasks: [TaskEvents::NONE; 16],
             writes: [0; 1024],
         }
     }
@@ -37,10 +47,10 @@ impl Latest {
         requires { t < tasks }
         ensures { (σ : Trace) (e : ℕ) → LatestBefore σ e self.now → result ≡ last_of σ e t }
     {
-        if self.events[t] == 0 {
-            return self.starts[t];
+        if self.tasks[t].event == 0 {
+            return self.tasks[t].start;
         }
-        self.events[t]
+        self.tasks[t].event
     }
 
     // The predecessor of event e: the last event of its task, or its start.
@@ -87,15 +97,16 @@ impl Latest {
         ensures { LatestBefore (decode_all records.now.bytes.now) (e + 1) self.new }
     {
         let o = recording::object(records.bytes, e) as usize;
-        self.events[recording::task(records.bytes, e) as usize] = e as u16;
+        self.tasks[recording::task(records.bytes, e) as usize].event = e as u16;
         match recording::operation(records.bytes, e) {
             Op::Write => self.writes[o] = e as u16,
-            Op::Acquire => {
+            other => {
                 if 64 <= o {
-                    self.starts[o - 64] = e as u16;
+                    if let Op::Acquire = other {
+                        self.tasks[o - 64].start = e as u16;
+                    }
                 }
             }
-            _ => {}
         }
     }
 }

@@ -23,9 +23,9 @@ use Rattle.laws.proofs.Tests.{equal?}
 use Rattle.laws.proofs.WellFormed.{WellFormed}
 use Rattle.laws.proofs.OpenAcquires.{opened_acquire}
 use Rattle.laws.proofs.Matches.{marked_keep, marked_release, marked_opened, marked_other, marked_end}
-use Rattle.laws.proofs.LatestEvents.{latest-start_of}
 use Rattle.laws.proofs.Marks.{marked_match}
 use Rattle.laws.proofs.Awaited.{writer_off}
+use Rattle.order.proofs.Laws.{start_is}
 use Rattle.relations.specs.declared.Row.{Row}
 use Rattle.relations.specs.declared.Walk.{Walk}
 use Rattle.relations.specs.Tables.{blank, row, IsRow, Tabled, Noted, Walked}
@@ -97,14 +97,11 @@ module _ {σ : Trace} {e : ℕ} {rows : List Row} (z : Noted σ e rows) (l : e <
 
 -- After the last event each row has the relations of its event.
 pub noted_end : {σ : Trace} {e : ℕ} {rows : List Row} {walk : Walk} → Noted σ e rows → Walked σ e walk
-    → e ≡ suc (length σ) → Tabled σ (record { rows = rows; starts = walk.latest.starts })
+    → e ≡ suc (length σ) → Tabled σ (record { rows = rows; tasks = walk.latest.tasks })
 noted_end {σ} {walk = walk} z w last = record {
   held_at = λ f i. (z.at f i.0 (omega (arith, i, last))).held_is;
   predecessor_at = λ f i. (z.at f i.0 (omega (arith, i, last))).predecessor_is;
-  start_at = λ t i.
-      let start = w.latest.start in
-      let long = w.latest.starts_long in
-      rw last at (latest-start_of σ _ walk.latest.starts start t (omega (arith, long)));
+  start_at = λ t i. rw last at (start_is w.latest i);
   awaited_at = λ f i. (z.at f i.0 (omega (arith, i, last))).awaited_is;
   matching_at = λ f i. (rw last at (z.at f i.0 (omega (arith, i, last))).matching_is) ∙ marked_end σ f;
 }

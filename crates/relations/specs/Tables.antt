@@ -7,7 +7,7 @@ use Rattle.model.specs.Relations.{predecessor, held}
 use Rattle.laws.specs.Order.{awaited, start_in}
 use Rattle.laws.specs.Walked.{marked_before}
 use Rattle.laws.specs.EventKinds.{marked}
-use Rattle.order.specs.Kept.{LatestBefore}
+use Rattle.order.specs.Kept.{of_task, LatestBefore}
 use Rattle.sections.specs.Kept.{OpenBefore}
 use Rattle.relations.specs.declared.Row.{Row}
 use Rattle.relations.specs.declared.Tables.{Tables}
@@ -25,7 +25,7 @@ row rows e = get_or rows e blank
 pub record Tabled (σ : Trace) (tables : Tables) : Type 0 where
   pub held_at : (e : ℕ) → (1 ≤ e) × (e ≤ length σ) → (row tables.rows e).held ≡ held σ e
   pub predecessor_at : (e : ℕ) → (1 ≤ e) × (e ≤ length σ) → (row tables.rows e).predecessor ≡ predecessor σ e
-  pub start_at : (t : ℕ) → t < tasks → get_or tables.starts t 0 ≡ start_in σ t
+  pub start_at : (t : ℕ) → t < tasks → (of_task tables.tasks t).start ≡ start_in σ t
   pub awaited_at : (e : ℕ) → (1 ≤ e) × (e ≤ length σ) → (row tables.rows e).awaited ≡ awaited σ e
   pub matching_at : (e : ℕ) → (1 ≤ e) × (e ≤ length σ) → (row tables.rows e).matching ≡ marked σ e
 

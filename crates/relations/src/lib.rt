@@ -18,7 +18,7 @@ ghost use Rattle.sections.specs.Kinds.{IsKind};
 ghost use Rattle.relations.specs.Tables.{row, IsRow, Tabled, Noted, Walked};
 
 use model::{Question, Refusal, Related};
-use order::Latest;
+use order::{Latest, TaskEvents};
 use recording::{Op, Records};
 use sections::{Kind, OpenSections};
 
@@ -30,11 +30,11 @@ pub struct Trace<'a> {
     ghost tabled: { Tabled (decode_all records.bytes.now) tables.now },
 }
 
-// For each event its row, and for each task its start.
+// For each event its row, and for each task its start, beside its latest event.
 #[derive(Drop)]
 pub struct Tables {
     rows: [Row; 4096],
-    starts: [u16; 16],
+    tasks: [TaskEvents; 16],
 }
 
 // What is noted of an event: its held locks, its predecessor, what it awaits (a read its writer, a join what
@@ -100,7 +100,7 @@ impl Tables {
                 awaited: 0,
                 matching: 0,
             }; 4096],
-            starts: [0; 16],
+            tasks: [TaskEvents::NONE; 16],
         }
     }
 
@@ -115,7 +115,7 @@ impl Tables {
         for e in 1..records.len() + 1 {
             walk.note(records, e, &mut self.rows);
         }
-        self.starts = walk.latest.starts;
+        self.tasks = walk.latest.tasks;
     }
 }
 
@@ -194,7 +194,7 @@ impl<'a> Trace<'a> {
         requires { t < tasks }
         ensures { result ≡ start_in (decode_all self.now.records.bytes.now) t }
     {
-        self.tables.starts[t]
+        self.tables.tasks[t].start
     }
 
     // What event e awaits besides its predecessor: a read its writer, a join what it waits for, or 0.

@@ -8,7 +8,7 @@ use native.Mathlib.Numerals.{add-one}
 use native.Mathlib.Omega.{arith}
 use lib.Bits.{bit_or, bit_xor}
 use lib.Dec.{T, eqb}
-use lib.ListN.{length, get_or, set, length-set}
+use lib.ListN.{length, get_or, set, length-map}
 use borrow.Author.Tests.{eq-eqb, ne_eqb}
 use Rattle.model.specs.Lists.{last_before}
 use Rattle.model.specs.Trace.{Trace, tasks, locks, variables, at, task, object, is_acquire, is_release}
@@ -26,9 +26,11 @@ use Rattle.laws.proofs.OpenAcquires.{opened_acquire}
 use Rattle.laws.proofs.Matches.{marked_new, marked_release}
 use Rattle.recording.specs.declared.Records.{Records}
 use Rattle.sections.specs.declared.Kind as K
+use Rattle.sections.specs.declared.Section.{Section}
 use Rattle.sections.specs.declared.OpenSections.{OpenSections}
 use Rattle.sections.specs.Kinds.{kind_code, IsKind}
-use Rattle.sections.specs.Kept.{OpenBefore}
+use Rattle.sections.specs.Kept.{of_lock, depths, acquires, OpenBefore}
+use Rattle.sections.proofs.Fields.{with_acquire, acquire_set, depth_left, acquire_at}
 use Rattle.sections.proofs.KindOf.{Coming, access_depths, outer_acquire, outer_release}
 
 -- Event e of a well-formed trace, with its kind, and what is kept before it.
@@ -51,6 +53,9 @@ of_accepted r (first, last, kind, kept) = record {
 }
 
 module _ {σ : Trace} {e : ℕ} {k : K.Kind} {sections : OpenSections} (u : OfKind σ e k sections) where
+  acquires_long : length (acquires sections.locks) ≡ locks
+  acquires_long = length-map sections.locks _ ∙ sym (length-map sections.locks _) ∙ u.before.depth.long
+
   code_is : kind_code k ≡ kind σ e
   code_is = u.kind_is.code_is
 
@@ -98,13 +103,15 @@ module _ {σ : Trace} {e : ℕ} {k : K.Kind} {sections : OpenSections} (u : OfKi
 
     -- An outer release has the latest acquire of its lock, which is earlier.
     pub release_match : kind_code k ≡ 3
-        → (get_or sections.acquires l 0 ≤ e) × (get_or sections.acquires l 0 ≡ marked_before σ (e + 1) e)
+        → ((of_lock sections.locks l).acquire ≤ e)
+        × ((of_lock sections.locks l).acquire ≡ marked_before σ (e + 1) e)
     release_match a =
         let t : T (is_release σ e) = rw (release a) tt in
         let b = release_lock a in
-        let latest : get_or sections.acquires l 0
-        ≡ last_before e (λ f. is_acquire σ f && eqb (object σ e) (object σ f)) = rw is-object.1
-        (u.before.acquire.at (object σ e) (omega (arith, is-object, b, u.before.acquires_long))) in
+        let latest : (of_lock sections.locks l).acquire
+        ≡ last_before e (λ f. is_acquire σ f && eqb (object σ e) (object σ f)) =
+        rw (← (acquire_at sections.locks l), is-object.1)
+        (u.before.acquire.at (object σ e) (omega (arith, is-object, b, acquires_long))) in
         let opened = opened_acquire σ u.sound e u.event t in (
           rw latest (omega (arith, opened.1)),
           rw (add-one e) (marked_release σ u.sound e u.event t latest),
@@ -113,7 +120,7 @@ module _ {σ : Trace} {e : ℕ} {k : K.Kind} {sections : OpenSections} (u : OfKi
     -- ---- what is kept
 
     -- With its operation and object.
-    pub coming : {op : ℕ} → op ≡ (at σ e).op → Coming σ e op l sections.depths
+    pub coming : {op : ℕ} → op ≡ (at σ e).op → Coming σ e op l sections.locks
     coming q = record {
       sound = u.sound;
       event = u.event;
@@ -122,10 +129,10 @@ module _ {σ : Trace} {e : ℕ} {k : K.Kind} {sections : OpenSections} (u : OfKi
       depths_are = u.before.depth;
     }
 
-    unacquired : kind_code k ≢ 2 → LatestEvents (is_acquire σ) (object σ) (e + 1) sections.acquires
+    unacquired : kind_code k ≢ 2 → LatestEvents (is_acquire σ) (object σ) (e + 1) (acquires sections.locks)
     unacquired d =
         rw (add-one e)
-        (latest_keep (is_acquire σ) (object σ) e sections.acquires u.before.acquire (no_acquire d))
+        (latest_keep (is_acquire σ) (object σ) e (acquires sections.locks) u.before.acquire (no_acquire d))
 
     unlocked : kind_code k ≢ 2 → kind_code k ≢ 3 → Locksets σ (e + 1) sections.locksets
     unlocked c d =
@@ -138,47 +145,42 @@ module _ {σ : Trace} {e : ℕ} {k : K.Kind} {sections : OpenSections} (u : OfKi
     access_noted c d n = record {
       depth = let q = op_is n in access_depths (coming q) (omega (arith, u.kind_is.op_lt));
       lockset = unlocked c d;
-      acquires_long = u.before.acquires_long;
       acquire = unacquired c;
     }
 
     -- and a record that does not count at most the depths.
-    pub depth_noted : kind_code k ≡ uncounted_kind → {depths : List ℕ} → KeptDepths σ (e + 1) depths
-        → OpenBefore σ (e + 1)
-        (record { depths = depths; locksets = sections.locksets; acquires = sections.acquires })
-    depth_noted a z = record {
+    pub depth_noted : kind_code k ≡ uncounted_kind → {table : List Section}
+        → KeptDepths σ (e + 1) (depths table) → acquires table ≡ acquires sections.locks
+        → OpenBefore σ (e + 1) (record { locks = table; locksets = sections.locksets })
+    depth_noted a z left = record {
       depth = z;
       lockset = unlocked (omega arith) (omega arith);
-      acquires_long = u.before.acquires_long;
-      acquire = unacquired (omega arith);
+      acquire = rw left (unacquired (omega arith));
     }
 
     module _ {t : ℕ} (is-task : (t < tasks) × (t ≡ task σ e)) where
       -- The task of an outer acquire holds its lock, of which it is the latest one,
       pub acquire_noted : kind_code k ≡ 2
           → OpenBefore σ (e + 1) (record {
-            depths = sections.depths;
+            locks = with_acquire sections.locks l e;
             locksets = set sections.locksets t (bit_or (get_or sections.locksets t 0) (1 * 2 ^ l % 2 ^ 64));
-            acquires = set sections.acquires l e;
           })
       acquire_noted a =
           let b = acquire_lock a in
           let op = op_is (omega arith) in record {
-            depth = outer_acquire (coming op) b a (sym a ∙ code_is);
+            depth = rw (depth_left sections.locks l e) (outer_acquire (coming op) b a (sym a ∙ code_is));
             lockset = rw (add-one e, is-task.1, is-object.1)
                 (locksets_acquire σ e sections.locksets u.before.lockset (omega (arith, is-task)) (acquire a)
                 (omega (arith, is-object, b)));
-            acquires_long = length-set sections.acquires l e ∙ u.before.acquires_long;
-            acquire = rw (add-one e, is-object.1)
-                (latest-set (is_acquire σ) (object σ) e sections.acquires u.before.acquire
-                (rw (acquire a) tt) (omega (arith, is-object, b, u.before.acquires_long)));
+            acquire = rw (add-one e, acquire_set sections.locks l e, is-object.1)
+                (latest-set (is_acquire σ) (object σ) e (acquires sections.locks) u.before.acquire
+                (rw (acquire a) tt) (omega (arith, is-object, b, acquires_long)));
           }
 
       -- and that of an outer release no more.
       pub release_noted : kind_code k ≡ 3 → OpenBefore σ (e + 1) (record {
-        depths = sections.depths;
+        locks = sections.locks;
         locksets = set sections.locksets t (bit_xor (get_or sections.locksets t 0) (1 * 2 ^ l % 2 ^ 64));
-        acquires = sections.acquires;
       })
       release_noted a =
           let b = release_lock a in
@@ -188,6 +190,5 @@ module _ {σ : Trace} {e : ℕ} {k : K.Kind} {sections : OpenSections} (u : OfKi
             lockset = rw (add-one e, is-task.1, is-object.1)
                 (locksets_release σ e sections.locksets u.before.lockset (omega (arith, is-task)) (release a)
                 (omega (arith, is-object, b)) (is_true _ held));
-            acquires_long = u.before.acquires_long;
             acquire = unacquired (omega arith);
           }

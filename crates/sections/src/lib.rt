@@ -24,13 +24,19 @@ pub enum Kind {
     Uncounted,
 }
 
-// What is kept of critical sections before an event: the depth of each lock, or 1 where it has none, the
-// locks that each task holds, as a mask, and the latest outer acquire of each lock.
+// Of a lock its depth, or 1 where it has none, and its latest outer acquire, or 0.
+#[derive(Clone, Copy)]
+pub struct Section {
+    pub depth: u16,
+    pub acquire: u16,
+}
+
+// What is kept of critical sections before an event: that of each lock, and the locks that each task holds,
+// as a mask.
 #[derive(Drop)]
 pub struct OpenSections {
-    pub depths: [u16; 64],
+    pub locks: [Section; 64],
     pub locksets: [u64; 16],
-    pub acquires: [u16; 64],
 }
 
 impl OpenSections {
@@ -39,9 +45,11 @@ impl OpenSections {
         ensures { (σ : Trace) → OpenBefore σ 1 result }
     {
         OpenSections {
-            depths: [1; 64],
+            locks: [Section {
+                depth: 1,
+                acquire: 0,
+            }; 64],
             locksets: [0; 16],
-            acquires: [0; 64],
         }
     }
 
@@ -65,24 +73,11 @@ impl OpenSections {
         match recording::operation(records.bytes, e) {
             Op::Read => Kind::Read,
             Op::Write => Kind::Write,
-            Op::Acquire => {
-                if 64 <= l {
-                    return Kind::Uncounted;
-                }
-                if !recording::in_mask(self.held_locks(records, e), l as u64) {
-                    return Kind::Acquire;
-                }
-                Kind::Uncounted
-            }
-            Op::Release => {
-                if 64 <= l {
-                    return Kind::Uncounted;
-                }
-                if self.depths[l] == 1 {
-                    return Kind::Release;
-                }
-                Kind::Uncounted
-            }
+            _ if 64 <= l => Kind::Uncounted,
+            Op::Acquire if !recording::in_mask(self.held_locks(records, e), l as u64) =>
+                Kind::Acquire,
+            Op::Release if self.locks[l].depth == 1 => Kind::Release,
+            _ => Kind::Uncounted,
         }
     }
 
@@ -95,7 +90,7 @@ impl OpenSections {
         ensures { (result ≤ e) × (result ≡ marked_before (decode_all records.now.bytes.now) (e + 1) e) }
     {
         match k {
-            Kind::Release => self.acquires[recording::object(records.bytes, e) as usize],
+            Kind::Release => self.locks[recording::object(records.bytes, e) as usize].acquire,
             Kind::Uncounted => e as u16,
             _ => 0,
         }
@@ -114,7 +109,7 @@ impl OpenSections {
         match k {
             Kind::Acquire => {
                 self.locksets[t] |= 1 << l;
-                self.acquires[l] = e as u16;
+                self.locks[l].acquire = e as u16;
             }
             Kind::Release => self.locksets[t] ^= 1 << l,
             Kind::Uncounted => self.note_depth(records, e),
@@ -135,8 +130,8 @@ impl OpenSections {
             return;
         }
         match recording::operation(records.bytes, e) {
-            Op::Acquire => self.depths[l] += 1,
-            Op::Release => self.depths[l] -= 1,
+            Op::Acquire => self.locks[l].depth += 1,
+            Op::Release => self.locks[l].depth -= 1,
             _ => {}
         }
     }

@@ -14,29 +14,30 @@ small : (c : goal.In-Acquire) → c.object-o.result < 80
 small c =
     names_task c.args.records.now c.args.e c.in-Acquire.ensures c.object-o.ensures (omega arith) (omega arith)
 
-pub bounds-self-o-then-o-ge64 : goal.bounds-self-o-then-o-ge64
-bounds-self-o-then-o-ge64 c =
-    omega (arith, small (goal.at.bounds-self-o-then-o-ge64 c).In-Acquire, c.if-o-ge64.true)
+pub bounds-self-o-in-Acquire : goal.bounds-self-o-in-Acquire
+bounds-self-o-in-Acquire c =
+    omega (arith, small (goal.at.bounds-self-o-in-Acquire c).In-Acquire, c.if-o-ge64.true)
 
 pub returns-in-Write : goal.returns-in-Write
 returns-in-Write c =
     write_noted c.requires.2 c.in-Write.ensures c.object-o.ensures
     c.task.ensures refl
 
-pub returns-then-o-ge64 : goal.returns-then-o-ge64
-returns-then-o-ge64 c =
+pub returns-in-Acquire : goal.returns-in-Acquire
+returns-in-Acquire c =
     start_noted c.requires.2 c.in-Acquire.ensures c.object-o.ensures
-    c.task.ensures refl c.if-o-ge64.true (small (goal.at.returns-then-o-ge64 c).In-Acquire)
+    c.task.ensures refl c.if-o-ge64.true (small (goal.at.returns-in-Acquire c).In-Acquire)
 
 pub returns-else-o-ge64 : goal.returns-else-o-ge64
 returns-else-o-ge64 c =
-    event_alone c.requires.2 c.in-Acquire.ensures c.object-o.ensures
-    c.task.ensures (omega arith)
-    (is_start_lock _ c.args.e c.in-Acquire.ensures (omega (arith, c.object-o.ensures, c.if-o-ge64.false)))
-
-pub returns-in_default : goal.returns-in_default
-returns-in_default c =
     let k = c.operation.result in
-    let none = is_start-none _ c.args.e c.operation.ensures (code_apart k Acquire c.in_default.not-Acquire) in
     event_alone c.requires.2 c.operation.ensures c.object-o.ensures
-    c.task.ensures (code_apart k Write c.in_default.not-Write) none
+    c.task.ensures (code_apart k Write c.in_default.not-Write)
+    (is_start_lock _ c.args.e c.operation.ensures (omega (arith, c.object-o.ensures, c.if-o-ge64.false)))
+
+pub returns-in_default-other : goal.returns-in_default-other
+returns-in_default-other c =
+    let k = c.operation.result in
+    event_alone c.requires.2 c.operation.ensures c.object-o.ensures
+    c.task.ensures (code_apart k Write c.in_default.not-Write)
+    (is_start-none _ c.args.e c.operation.ensures (code_apart k Acquire c.in_default-other.not-Acquire))

@@ -8,6 +8,8 @@ use Rattle.model.specs.Recording.{decode_all}
 use Rattle.laws.proofs.Trace.{record-event}
 use Rattle.laws.proofs.Questions.{events_sound}
 use Rattle.laws.proofs.EventKinds.{kind_access}
+use Rattle.recording.specs.declared.Op.TheVariants as Op
+use Rattle.recording.proofs.Laws.{code_lt, code_apart}
 use Rattle.sections.specs.declared.Kind.TheVariants.{Read, Write, Acquire, Release, Uncounted}
 use Rattle.sections.proofs.KindOf.{Coming, of_kind, task_kind, enter_outer, enter_inner, leave_outer}
 use Rattle.sections.proofs.KindOf.{leave_inner}
@@ -17,7 +19,7 @@ use Rattle.sections.proofs.OpenSections.kind_of.Goals.{After-operation}
 -- The event with its operation and object.
 coming : (c : goal.After-operation) {op : ℕ} → op ≡ (at (decode_all c.args.records.now.bytes.now) c.args.e).op
     → op < 4
-    → Coming (decode_all c.args.records.now.bytes.now) c.args.e op c.object-l.result c.args.self.now.depths
+    → Coming (decode_all c.args.records.now.bytes.now) c.args.e op c.object-l.result c.args.self.now.locks
 coming c is small =
     let r = c.args.records.now in record {
       sound = events_sound r.bytes.now r.accepted;
@@ -37,34 +39,32 @@ returns-in-Write c =
     let u = coming (goal.at.returns-in-Write c).After-operation c.in-Write.ensures (omega arith) in
     of_kind u Write (kind_access _ c.args.e c.in-Write.ensures (omega arith))
 
-pub returns-then-l-ge64 : goal.returns-then-l-ge64
-returns-then-l-ge64 c =
-    let u = coming (goal.at.returns-then-l-ge64 c).After-operation c.in-Acquire.ensures (omega arith) in
+pub returns-in_default : goal.returns-in_default
+returns-in_default c =
+    let k = c.operation.result in
+    let u = coming (goal.at.returns-in_default c).After-operation c.operation.ensures (code_lt k) in
+    let a = code_apart k Op.Read c.in_default.not-Read in
+    let b = code_apart k Op.Write c.in_default.not-Write in
     of_kind u Uncounted (task_kind u (omega arith) c.if-l-ge64.true)
 
-pub returns-then-not-in_mask : goal.returns-then-not-in_mask
-returns-then-not-in_mask c =
-    let u = coming (goal.at.returns-then-not-in_mask c).After-operation c.in-Acquire.ensures (omega arith) in
+pub returns-in-Acquire : goal.returns-in-Acquire
+returns-in-Acquire c =
+    let u = coming (goal.at.returns-in-Acquire c).After-operation c.in-Acquire.ensures (omega arith) in
     of_kind u Acquire (enter_outer u c.if-l-ge64.false refl
     (rw c.held_locks.ensures at (sym c.in_mask.ensures ∙ c.if-not-in_mask.true))).0
 
-pub returns-else-not-in_mask : goal.returns-else-not-in_mask
-returns-else-not-in_mask c =
-    let u = coming (goal.at.returns-else-not-in_mask c).After-operation c.in-Acquire.ensures (omega arith) in
+pub returns-in_default-2 : goal.returns-in_default-2
+returns-in_default-2 c =
+    let u = coming (goal.at.returns-in_default-2 c).After-operation c.in-Acquire.ensures (omega arith) in
     of_kind u Uncounted (enter_inner u c.if-l-ge64.false refl
     (rw c.held_locks.ensures at (sym c.in_mask.ensures ∙ c.if-not-in_mask.false))).0
 
-pub returns-then-l-ge64-2 : goal.returns-then-l-ge64-2
-returns-then-l-ge64-2 c =
-    let u = coming (goal.at.returns-then-l-ge64-2 c).After-operation c.in-Release.ensures (omega arith) in
-    of_kind u Uncounted (task_kind u (omega arith) c.if-l-ge64-2.true)
+pub returns-in-Release : goal.returns-in-Release
+returns-in-Release c =
+    let u = coming (goal.at.returns-in-Release c).After-operation c.in-Release.ensures (omega arith) in
+    of_kind u Release (leave_outer u c.if-l-ge64.false refl c.if-self-l-eq1.true).0
 
-pub returns-then-self-l-eq1 : goal.returns-then-self-l-eq1
-returns-then-self-l-eq1 c =
-    let u = coming (goal.at.returns-then-self-l-eq1 c).After-operation c.in-Release.ensures (omega arith) in
-    of_kind u Release (leave_outer u c.if-l-ge64-2.false refl c.if-self-l-eq1.true).0
-
-pub returns-else-self-l-eq1 : goal.returns-else-self-l-eq1
-returns-else-self-l-eq1 c =
-    let u = coming (goal.at.returns-else-self-l-eq1 c).After-operation c.in-Release.ensures (omega arith) in
-    of_kind u Uncounted (leave_inner u c.if-l-ge64-2.false refl c.if-self-l-eq1.false).0
+pub returns-in_default-2-2 : goal.returns-in_default-2-2
+returns-in_default-2-2 c =
+    let u = coming (goal.at.returns-in_default-2-2 c).After-operation c.in-Release.ensures (omega arith) in
+    of_kind u Uncounted (leave_inner u c.if-l-ge64.false refl c.if-self-l-eq1.false).0

@@ -1,6 +1,4 @@
 -- `sections::OpenSections::new` meets its contract: before event 1 no lock is held. Assumes nothing.
-use Prim.Native.Nat.{ℕ}
-use lib.ListN.{length-replicate}
 use Rattle.model.specs.Trace.{locks, object, is_acquire}
 use Rattle.laws.proofs.LatestEvents.{latest-start}
 use Rattle.laws.proofs.Locksets.{locksets-start}
@@ -11,6 +9,5 @@ pub returns : goal.returns
 returns c = λ σ. record {
   depth = kept_depths-start;
   lockset = locksets-start σ;
-  acquires_long = length-replicate {A = ℕ} locks 0;
   acquire = latest-start (is_acquire σ) (object σ) locks;
 }

@@ -4,6 +4,7 @@ use mathlib.Core.Path.{refl}
 use native.Mathlib.Omega.{arith}
 use Rattle.recording.specs.declared.Op.TheVariants as Op
 use Rattle.recording.proofs.Laws.{code_apart}
+use Rattle.sections.proofs.Fields.{acquire_left}
 use Rattle.sections.proofs.KindOf.{task_depths, access_depths, depth_fits, leave_deep, inner_acquire}
 use Rattle.sections.proofs.KindOf.{inner_release}
 use Rattle.sections.proofs.Locks.{of_accepted, coming, depth_noted}
@@ -13,7 +14,7 @@ pub returns-then-l-ge64 : goal.returns-then-l-ge64
 returns-then-l-ge64 c =
     let u = of_accepted c.args.records.now c.requires in
     let o = c.object-l.ensures in
-    depth_noted u o refl (task_depths (coming u o refl) c.if-l-ge64.true)
+    depth_noted u o refl (task_depths (coming u o refl) c.if-l-ge64.true) refl
 
 pub overflow_add-self : goal.overflow_add-self
 overflow_add-self c =
@@ -26,6 +27,7 @@ returns-in-Acquire c =
     let o = c.object-l.ensures in
     depth_noted u o refl
     (inner_acquire (coming u o c.in-Acquire.ensures) c.if-l-ge64.false refl c.requires.2.code_is)
+    (acquire_left _ _ _)
 
 pub overflow_sub-self : goal.overflow_sub-self
 overflow_sub-self c =
@@ -38,6 +40,7 @@ returns-in-Release c =
     let o = c.object-l.ensures in
     depth_noted u o refl
     (inner_release (coming u o c.in-Release.ensures) c.if-l-ge64.false refl c.requires.2.code_is)
+    (acquire_left _ _ _)
 
 pub returns-in_default : goal.returns-in_default
 returns-in_default c =
@@ -47,4 +50,4 @@ returns-in_default c =
     let q = c.operation.ensures in
     let a = code_apart k Op.Acquire c.in_default.not-Acquire in
     let b = code_apart k Op.Release c.in_default.not-Release in
-    depth_noted u o refl (access_depths (coming u o q) (omega (arith, c.requires.2.op_lt)))
+    depth_noted u o refl (access_depths (coming u o q) (omega (arith, c.requires.2.op_lt))) refl
