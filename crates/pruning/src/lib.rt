@@ -151,6 +151,7 @@ impl<'a> Links<'a> {
     }
 
     // For each lock, the locks that are held at those of its acquires that are candidates.
+    #[inline]
     pub fn leads(&self, candidates: &Candidates) -> [u64; 64]
         requires { 2 * candidates.now.after ≤ length self.now.trace.now.records.bytes.now }
         ensures { Leading (decode_all self.now.trace.now.records.bytes.now) (candidates_of candidates.now)
