@@ -12,13 +12,14 @@ use lib.Dec.{T, T_not, eqb, not_T}
 use lib.Bits.{bit_and}
 use lib.ListN.{length, get_or}
 use Rattle.model.specs.Lists.{from, has_bit}
-use Rattle.model.specs.Trace.{Trace, tasks, task, object, is_acquire}
+use Rattle.model.specs.Trace.{Trace, task, object, is_acquire}
 use Rattle.model.specs.Relations.{predecessor, held}
 use Rattle.model.specs.EventSet.{has}
 use Rattle.model.specs.Pattern.{is_deadlock, closure_before}
 use Rattle.laws.specs.Chain.{Chain, signature, start, add, fits}
 use Rattle.laws.specs.Walk.{extensions, branch}
-use Rattle.laws.specs.Returning.{Rooted, Covers, Leading, Spread, Returning}
+use Rattle.laws.specs.Returning.{Rooted, Covers, all_acquires, beside, IsCandidate, Leading, Spread}
+use Rattle.laws.specs.Returning.{Returning}
 use Rattle.laws.proofs.Tests.{T-ext, decided, and_iff, or_l, is_false, eq→eqb}
 use Rattle.laws.proofs.Lists.{from_iff}
 use Rattle.laws.proofs.Filters.{each_none}
@@ -76,20 +77,20 @@ module _ (σ : Trace) where
   -- ---- the way back to the first event
 
   -- What leads from any acquire to another also leads from those beside one event.
-  pub leading-all : WellFormed σ → (a : ℕ) (lead : List ℕ) → Leading σ 0 tasks 0 lead
-      → Leading σ a (task σ a) (held σ a) lead
-  leading-all ok a lead z = record {
+  pub leading-all : (a : ℕ) (lead : List ℕ) → Leading σ all_acquires lead → Leading σ (beside σ a) lead
+  leading-all a lead z = record {
     long = z.long;
-    leads = λ e h k t d g. z.leads e (omega arith) k t
-        (λ q. absurd (omega (arith, ok.task_lt e (omega arith) (omega arith)))) (apart_none (held σ e));
+    leads = λ e k c. z.leads e k record {
+      later = omega (arith, c.later);
+      acquires = c.acquires;
+      other = λ q. cc;
+      apart = (apart_iff 0 (held σ e)).1 (λ l t u. rw (has_bit-none l) at t);
+    };
   }
-    where
-      apart_none : (m : ℕ) → T (eqb (bit_and 0 m) 0)
-      apart_none m = (apart_iff 0 m).1 (λ l t u. rw (has_bit-none l) at t)
 
   -- The locks that lead back, for a table of those that were held at other acquires.
   pub returning_spread : WellFormed σ → (a count : ℕ) (lead back : List ℕ)
-      → Leading σ a (task σ a) (held σ a) lead → Spread lead count back → get_or back 0 0 ≡ held σ a
+      → Leading σ (beside σ a) lead → Spread lead count back → get_or back 0 0 ≡ held σ a
       → Returning σ a count back
   returning_spread ok a count lead back leading z own = record {
     long = z.long;
@@ -102,6 +103,15 @@ module _ (σ : Trace) where
       covers zero l x t = rw own t
       covers (suc i) l x t = z.grows i l x (covers i (omega arith) x t)
 
+      -- An event that fits is a candidate.
+      candidate : (c : Chain) (e : ℕ) → c.first ≡ a → a < e → Fitting c e → IsCandidate σ (beside σ a) e
+      candidate c e q j f = record {
+        later = j;
+        acquires = f.acquires;
+        other = λ s. f.other (rw q cc);
+        apart = rw q at f.apart;
+      }
+
       -- The lock of an event that fits does not lead back either: its held locks would.
       missed : (i : ℕ) → suc i < count → (c : Chain) (e : ℕ) → c.first ≡ a
           → has_bit (get_or back (suc i) 0) (object σ c.last) ≡ false → a < e → e ≤ length σ → Fitting c e
@@ -112,8 +122,7 @@ module _ (σ : Trace) where
           T_not (has_bit (get_or back (suc i) 0) (object σ c.last)) (rw h tt)
           (z.leads i l (object σ e) (lock_lt σ ok e (omega arith) k (or_l (is_acquire σ e) _ f.acquires)) t
           (object σ c.last)
-          (leading.leads e j (omega (arith, k)) f.acquires (rw q at f.other) (rw q at f.apart)
-          (object σ c.last) f.holds_last))))
+          (leading.leads e (omega (arith, k)) (candidate c e q j f) (object σ c.last) f.holds_last))))
 
       nowhere : (i : ℕ) → i < count → (c : Chain) → c.first ≡ a → Rooted σ c
           → has_bit (get_or back i 0) (object σ c.last) ≡ false → extensions σ i c ≡ []

@@ -1,6 +1,7 @@
 -- Which chains of a search lead nowhere: the ways back from each lock to the held locks of the first event,
 -- by the number of further events. That they are such is in proofs/Returning.
 use Rattle.std.specs.Prelude.{ℕ, suc, ◌+◌, ◌<◌, ◌≡◌, ◌≢◌, false, List, [], T, eqb, length, get_or}
+use Rattle.std.specs.Prelude.{Option, Some, None}
 use Rattle.std.specs.Int.Bits.{bit_and}
 use Rattle.model.specs.Lists.{has_bit}
 use Rattle.model.specs.Trace.{Trace, locks, task, object, is_acquire}
@@ -18,16 +19,37 @@ pub record Rooted (σ : Trace) (c : Chain) : Type 0 where
 abbrev pub Covers : ℕ → ℕ → Type 0
 Covers inner outer = (l : ℕ) → T (has_bit inner l) → T (has_bit outer l)
 
--- For each lock, the locks held at its acquires after event a and before event `stop`, by other tasks than t
--- and with none of the held locks given. The table may have more.
-pub record Led (σ : Trace) (a stop t guards : ℕ) (lead : List ℕ) : Type 0 where
-  pub long : length lead ≡ locks
-  pub leads : (e : ℕ) → a < e → e < stop → T (is_acquire σ e) → task σ e ≢ t
-      → T (eqb (bit_and guards (held σ e)) 0) → Covers (held σ e) (get_or lead (object σ e) 0)
+-- Which acquires may stand beside the first event of a chain: those after an event, by other tasks than one,
+-- if any, and at which none of some locks is held.
+pub record Candidates : Type 0 where
+  pub after : ℕ
+  pub other_than : Option ℕ
+  pub guards : ℕ
 
--- The same for all acquires after event a.
-abbrev pub Leading : Trace → ℕ → ℕ → ℕ → List ℕ → Type 0
-Leading σ a t guards lead = Led σ a (length σ + 1) t guards lead
+-- All acquires.
+abbrev pub all_acquires : Candidates
+all_acquires = record { after = 0; other_than = None; guards = 0 }
+
+-- Those that may stand beside event a.
+abbrev pub beside : Trace → ℕ → Candidates
+beside σ a = record { after = a; other_than = Some (task σ a); guards = held σ a }
+
+-- Event e is one of them.
+pub record IsCandidate (σ : Trace) (c : Candidates) (e : ℕ) : Type 0 where
+  pub later : c.after < e
+  pub acquires : T (is_acquire σ e)
+  pub other : c.other_than ≢ Some (task σ e)
+  pub apart : T (eqb (bit_and c.guards (held σ e)) 0)
+
+-- For each lock, the locks held at those of its acquires that are candidates and come before event `stop`.
+-- The table may have more.
+pub record Led (σ : Trace) (c : Candidates) (stop : ℕ) (lead : List ℕ) : Type 0 where
+  pub long : length lead ≡ locks
+  pub leads : (e : ℕ) → e < stop → IsCandidate σ c e → Covers (held σ e) (get_or lead (object σ e) 0)
+
+-- The same for all candidates.
+abbrev pub Leading : Trace → Candidates → List ℕ → Type 0
+Leading σ c lead = Led σ c (length σ + 1) lead
 
 -- Each entry has the locks of the one before it, and those that lead to them. The table may have more.
 pub record Spread (lead : List ℕ) (count : ℕ) (back : List ℕ) : Type 0 where

@@ -11,7 +11,6 @@ ghost use Rattle.model.specs.Recording.{decode_all};
 ghost use Rattle.model.specs.Listing.{deadlocks};
 ghost use Rattle.model.specs.Calls.List.{list, list_out};
 ghost use Rattle.listing.specs.Delivered.{Delivered};
-ghost use Rattle.listing.specs.Size.{asked_size, asked_of};
 
 use entries::{Found, Full};
 use model::{Entries, Question, Refusal};
@@ -36,26 +35,13 @@ fn deliver(links: &Links, size: Size, out: &mut [u8]) -> Result<Found, Full>
     Ok(found)
 }
 
-// The largest size that the argument asks for, 16 where it is 0: question 8.
-fn size_of(largest: u64) -> Result<Size, Question>
-    ensures { asked_of result ≡ asked_size largest }
-{
-    match largest {
-        0 => Ok(Size { events: 16 }),
-        2..=16 => Ok(Size {
-            events: largest as usize,
-        }),
-        _ => Err(Question::LargestSize),
-    }
-}
-
 // The listing of a recording's deadlocks of at most `largest` events, 0 for 16: question 8, then 13.
 pub fn list(recording: &[u8], largest: u64, out: &mut [u8]) -> Result<Entries, Refusal>
     ensures answer { listed_of result ≡ list recording.now largest (length out.old) }
     ensures output { out.new ≡ list_out recording.now largest out.old }
 {
     let records = Records::read(recording)?;
-    let size = size_of(largest)?;
+    let size = Size::try_from(largest)?;
     let mut tables = Tables::blank();
     let trace = Trace::new(&records, &mut tables);
     match deliver(&Links::new(&trace), size, out) {

@@ -1,12 +1,12 @@
 // The search for deadlocks: depth first over acquires that hold locks, in the listing's order. What it finds
 // is taken as entries.
 ghost use Rattle.std.specs.Prelude.{suc, ◌+◌, ◌*◌, ◌-◌, ◌<◌, ◌≤◌, ◌≡◌, T, length};
-ghost use Rattle.model.specs.Trace.{tasks, is_acquire};
+ghost use Rattle.model.specs.Trace.{is_acquire};
 ghost use Rattle.model.specs.Recording.{decode_all};
 ghost use Rattle.model.specs.Listing.{deadlocks};
 ghost use Rattle.laws.specs.Chain.{signature, start};
 ghost use Rattle.laws.specs.Walk.{extensions, beginning};
-ghost use Rattle.laws.specs.Returning.{Leading, Returning};
+ghost use Rattle.laws.specs.Returning.{all_acquires, Leading, Returning};
 ghost use Rattle.entries.specs.Taken.{Taken, Adds};
 ghost use Rattle.chain.specs.Attempted.{chain_of};
 ghost use Rattle.listing.specs.Open.{Open, completions};
@@ -15,7 +15,7 @@ use crate::size::Size;
 use chain::{Grown, Path, Trial};
 use entries::{Found, Full};
 use frontier::Frontier;
-use pruning::Links;
+use pruning::{Candidates, Links};
 
 // A search for the deadlocks of at most some size that begin with one event: the links of the recording's
 // events, the first one, and the locks that lead back to it.
@@ -41,8 +41,8 @@ fn descend(
 ) -> Result<Found, Full>
     requires { Open (decode_all search.now.links.now.trace.now.records.bytes.now) search.now.first
         search.now.size.events path.now k frontier.now }
-    ensures { Adds (completions (decode_all search.now.links.now.trace.now.records.bytes.now) k (chain_of path.now))
-        out.old out.new found result }
+    ensures { Adds (completions (decode_all search.now.links.now.trace.now.records.bytes.now) k
+        (chain_of path.now)) out.old out.new found result }
 {
     if path.chain.closes(search.links.trace) {
         return entries::take_pattern(out, path.events(), found);
@@ -123,7 +123,7 @@ fn search_first(
     out: &mut [u8],
     found: Found,
 ) -> Result<Found, Full>
-    requires { Leading (decode_all links.now.trace.now.records.bytes.now) 0 tasks 0 lead.now
+    requires { Leading (decode_all links.now.trace.now.records.bytes.now) all_acquires lead.now
         × (1 ≤ a) × (2 * a ≤ length links.now.trace.now.records.bytes.now)
         × T (is_acquire (decode_all links.now.trace.now.records.bytes.now) a) }
     ensures { Adds (beginning (decode_all links.now.trace.now.records.bytes.now) (size.events - 1) a)
@@ -133,7 +133,7 @@ fn search_first(
     if pruning::ways_back(trace, lead, a, size.events).is_none() {
         return Ok(found);
     }
-    let beside = links.leads(a, Some(trace.task(a)), trace.held(a));
+    let beside = links.leads(&Candidates::beside(trace, a));
     match pruning::ways_back(trace, &beside, a, size.events) {
         None => Ok(found),
         Some(back) => {
@@ -154,7 +154,7 @@ pub fn search_all(links: &Links, size: Size, out: &mut [u8], room: usize) -> Res
     ensures { Taken room (deadlocks (decode_all links.now.trace.now.records.bytes.now) size.events)
         out.old out.new result }
 {
-    let lead = links.leads(0, None, 0);
+    let lead = links.leads(&Candidates::all());
     let mut found = Found::none(room);
     let mut at = 0;
     while let Some(a) = links.link(at) {

@@ -4,7 +4,7 @@ use Rattle.std.specs.Prelude.{ℕ, ◌-◌, ◌/◌, ◌≤◌, ◌≡◌, ◌�
 use Rattle.std.specs.Prelude.{length, get_or}
 use Rattle.std.specs.Prelude.{Option, Some, None}
 use Rattle.model.specs.Lists.{has_bit}
-use Rattle.model.specs.Trace.{Trace, tasks, object, is_acquire}
+use Rattle.model.specs.Trace.{Trace, object, is_acquire}
 use Rattle.model.specs.Relations.{held}
 use Rattle.laws.specs.Sizes.{table_length}
 use Rattle.laws.specs.Walk.{First}
@@ -41,11 +41,6 @@ is_near σ blocks l e = is_nested σ e && has_bit (get_or blocks (e / 64) 0) l
 abbrev pub Earliest : (ℕ → Bool) → ℕ → ℕ → Option ℕ → Type 0
 Earliest p n e None = First p n e 0
 Earliest p n e (Some x) = (x ≢ 0) × First p n e x
-
--- A task, or where it is none a number that no task has.
-abbrev pub number_of : Option ℕ → ℕ
-number_of None = tasks
-number_of (Some t) = t
 
 -- No chain of at most `count` events that begins with event a returns to it: its lock is not among those that
 -- lead back.

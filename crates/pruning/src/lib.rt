@@ -3,19 +3,22 @@
 // lead back to the first event.
 #![tactic(auto)]
 
+mod candidates;
+
 ghost use Rattle.std.specs.Prelude.{ℕ, ◌+◌, ◌-◌, ◌*◌, ◌<◌, ◌≤◌, ◌≡◌, [], cond, T, length, get_or};
 ghost use Rattle.model.specs.Lists.{has_bit};
-ghost use Rattle.model.specs.Trace.{locks, task, object, is_acquire};
-ghost use Rattle.model.specs.Relations.{held};
+ghost use Rattle.model.specs.Trace.{locks, object, is_acquire};
 ghost use Rattle.model.specs.Recording.{decode_all};
 ghost use Rattle.model.specs.Pattern.{largest_pattern};
 ghost use Rattle.laws.specs.Sizes.{table_length};
 ghost use Rattle.laws.specs.Chain.{signature, fits};
-ghost use Rattle.laws.specs.Returning.{Covers, Led, Leading, Spread};
+ghost use Rattle.laws.specs.Returning.{Covers, beside, Leading, Spread};
 ghost use Rattle.deadlock.specs.Judged.{of_events};
-ghost use Rattle.pruning.specs.Linked.{is_nested, event_of, number_of, Linked, Marked, is_near, Earliest};
+ghost use Rattle.pruning.specs.Linked.{is_nested, event_of, Linked, Marked, is_near, Earliest};
 ghost use Rattle.pruning.specs.Linked.{WaysBack};
+ghost use Rattle.pruning.specs.Candidates.{candidates_of};
 
+pub use candidates::Candidates;
 use deadlock::Chain;
 use relations::Trace;
 
@@ -84,24 +87,6 @@ fn mark_blocks(trace: &Trace, next: &[u16; 4096]) -> [u64; 64]
     blocks
 }
 
-// Notes the held locks of the acquire e with its lock, unless its task is t or it holds a guard.
-fn note_lead(trace: &Trace, a: usize, t: Option<u8>, guards: u64, lead: &mut [u64; 64], e: usize)
-    requires { (1 ≤ e) × (2 * e ≤ length trace.now.records.bytes.now)
-        × T (is_acquire (decode_all trace.now.records.bytes.now) e)
-        × Led (decode_all trace.now.records.bytes.now) a e (number_of t) guards lead.old }
-    ensures { Led (decode_all trace.now.records.bytes.now) a (e + 1) (number_of t) guards lead.new }
-{
-    if t == Some(trace.task(e)) {
-        return;
-    }
-    let held = trace.held(e);
-    if guards & held != 0 {
-        return;
-    }
-    let l = trace.object(e) as usize;
-    lead[l] |= held;
-}
-
 impl<'a> Links<'a> {
     // The links of a recording's events.
     pub fn new(trace: &'a Trace<'a>) -> Links<'a>
@@ -165,16 +150,17 @@ impl<'a> Links<'a> {
         None
     }
 
-    // For each lock, the locks that are held at its acquires after event a, by other tasks than t, if any,
-    // and with none of the guards.
-    pub fn leads(&self, a: usize, t: Option<u8>, guards: u64) -> [u64; 64]
-        requires { 2 * a ≤ length self.now.trace.now.records.bytes.now }
-        ensures { Leading (decode_all self.now.trace.now.records.bytes.now) a (number_of t) guards result }
+    // For each lock, the locks that are held at those of its acquires that are candidates.
+    #[inline]
+    pub fn leads(&self, candidates: &Candidates) -> [u64; 64]
+        requires { 2 * candidates.now.after ≤ length self.now.trace.now.records.bytes.now }
+        ensures { Leading (decode_all self.now.trace.now.records.bytes.now) (candidates_of candidates.now)
+            result }
     {
         let mut lead = [0; 64];
-        let mut at = a;
+        let mut at = candidates.after;
         while let Some(e) = self.link(at) {
-            note_lead(self.trace, a, t, guards, &mut lead, e);
+            candidates.note(self.trace, e, &mut lead);
             at = e;
         }
         lead
@@ -223,8 +209,8 @@ fn fill_back(lead: &[u64; 64], held: u64, count: usize) -> [u64; 16]
 pub fn ways_back(trace: &Trace, lead: &[u64; 64], a: usize, count: usize) -> Option<[u64; 16]>
     requires { (1 ≤ a) × (2 * a ≤ length trace.now.records.bytes.now)
         × T (is_acquire (decode_all trace.now.records.bytes.now) a)
-        × Leading (decode_all trace.now.records.bytes.now) a (task (decode_all trace.now.records.bytes.now) a)
-        (held (decode_all trace.now.records.bytes.now) a) lead.now
+        × Leading (decode_all trace.now.records.bytes.now) (beside (decode_all trace.now.records.bytes.now) a)
+        lead.now
         × (1 ≤ count) × (count ≤ largest_pattern) }
     ensures { WaysBack (decode_all trace.now.records.bytes.now) a count result }
 {

@@ -25,7 +25,8 @@ next c =
     (d, y, omega (arith, e.0), omega (arith, e.1), omega (arith, e.1, c.args.trace.now.records.short))
 
 pub loop-e-init : goal.loop-e-init
-loop-e-init c = marking-start (decode_all c.args.trace.now.records.bytes.now) _ (length-replicate {A = ℕ} 64 0)
+loop-e-init c =
+    marking-start (decode_all c.args.trace.now.records.bytes.now) _ (length-replicate {A = ℕ} 64 0)
 
 pub linked-requires : goal.linked-requires
 linked-requires c =
@@ -49,5 +50,5 @@ pub loop-e-preserved : goal.loop-e-preserved
 loop-e-preserved c =
     let l = c.loop-e in
     let (d, y, low, high, block) = next (goal.at.loop-e-preserved c).In-Some in
-    marking-next (decode_all c.args.trace.now.records.bytes.now) l.blocks l.at l.invariant c.in-Some.e d y block _
-    c.held.ensures
+    marking-next (decode_all c.args.trace.now.records.bytes.now) l.blocks l.at l.invariant c.in-Some.e d y
+    block _ c.held.ensures

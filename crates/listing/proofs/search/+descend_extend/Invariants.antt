@@ -19,10 +19,10 @@ decreases-extend l = 2 * l.left
 -- What the events so far add was taken, and where a task's frontier is kept, it is that of one of them.
 abbrev pub invariant-extend-loop-e : goal.invariant-extend-loop-e
 invariant-extend-loop-e l = record {
-  scanning : Scanning (decode_all l.search.links.now.trace.now.records.bytes.now) (l.left - 1) (chain_of l.path)
-      l.chain l.at l.initial.out l.out l.initial.taken l.taken;
-  kept : Remembered (decode_all l.search.links.now.trace.now.records.bytes.now) (chain_of l.path).events (suc l.at)
-      l.grown;
+  scanning : Scanning (decode_all l.search.links.now.trace.now.records.bytes.now) (l.left - 1)
+      (chain_of l.path) l.chain l.at l.initial.out l.out l.initial.taken l.taken;
+  kept : Remembered (decode_all l.search.links.now.trace.now.records.bytes.now) (chain_of l.path).events
+      (suc l.at) l.grown;
 }
 
 -- The events after those.

@@ -21,7 +21,7 @@ pub search_first-requires : goal.search_first-requires
 search_first-requires c =
     let (d, y) = c.in-Some.ensures in
     let e = y.passes d in (
-      c.leads-lead.ensures,
+      rw (← c.all.ensures) c.leads-lead.ensures,
       omega (arith, e.0),
       omega (arith, e.1, decode_all-length c.args.links.now.trace.now.records.bytes.now),
       nested_acquire _ c.in-Some.a e.2,

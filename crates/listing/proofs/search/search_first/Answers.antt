@@ -4,7 +4,6 @@ use native.Mathlib.Omega.{arith}
 use Rattle.model.specs.Trace.{is_acquire}
 use Rattle.model.specs.Recording.{decode_all}
 use Rattle.laws.proofs.Tests.{is_true}
-use Rattle.laws.proofs.Questions.{events_sound}
 use Rattle.laws.proofs.Extensions.{beginning_acquire}
 use Rattle.laws.proofs.Returning.{leading-all}
 use Rattle.entries.proofs.Laws.{adds_none}
@@ -18,7 +17,7 @@ ways_back-requires c =
       c.requires.1,
       c.requires.2,
       c.requires.3,
-      leading-all (decode_all b) (events_sound b trace.records.accepted) c.args.a c.args.lead.now c.requires.0,
+      leading-all (decode_all b) c.args.a c.args.lead.now c.requires.0,
       omega (arith, c.args.size.permitted),
       c.args.size.permitted.1,
     )

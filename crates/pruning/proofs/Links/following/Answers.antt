@@ -36,7 +36,8 @@ hop-requires c =
     let trace = c.args.self.now.trace.now in
     let b = trace.records.bytes.now in (
       rw c.object-l.ensures.1
-          (acquire_lt (decode_all b) (events_sound b trace.records.accepted) c.args.chain.now.last c.requires.3),
+          (acquire_lt (decode_all b) (events_sound b trace.records.accepted) c.args.chain.now.last
+          c.requires.3),
       omega (arith, c.loop-x.invariant.high, decode_all-length b),
     )
 

@@ -1,7 +1,7 @@
--- `listing::size_of` meets its contract: each return cites the law of its case. Assumes nothing.
+-- `listing::Size::try_from` meets its contract: each return cites the law of its case. Assumes nothing.
 use native.Mathlib.Omega.{arith}
 use Rattle.listing.proofs.Answers.{size_default, size_low, size_high, size_itself}
-use Rattle.listing.proofs.size_of.Goals as goal
+use Rattle.listing.proofs.size.SizeTryFromU64.try_from.Goals as goal
 
 pub returns-in-0 : goal.returns-in-0
 returns-in-0 c = size_default c.args.largest c.in-0.is
