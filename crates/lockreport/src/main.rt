@@ -22,7 +22,7 @@ fn put_pattern(text: &mut String, events: &[u8]) -> Result<(), AllocError> {
     printing::push(text, "deadlock")?;
     let (numbers, _) = events.as_chunks::<2>();
     for number in numbers {
-        printing::push_spaced(text, u64::from(u16::from_be_bytes(*number)))?;
+        printing::push_spaced(text, u16::from_be_bytes(*number) as u64)?;
     }
     printing::push(text, "\n")
 }
@@ -35,7 +35,7 @@ fn split_entry(entries: &[u8]) -> (&[u8], &[u8])
     ensures entries { Entries result.1.now }
     ensures fewer { length result.1.now < length entries.now }
 {
-    let size = usize::from(recording::number(entries, 0));
+    let size = recording::number(entries, 0) as usize;
     let (entry, others) = entries.split_at(2 * size + 2);
     (&entry[2..], others)
 }

@@ -16,12 +16,12 @@ use Rattle.model.specs.Tasks.{is_start, target}
 use Rattle.model.specs.Relations.{latest_of, start_of, last_of, joined}
 use Rattle.laws.specs.Order.{awaited}
 use Rattle.laws.specs.Walked.{LatestEvents}
-use Rattle.laws.proofs.Questions.{events_sound}
 use Rattle.laws.proofs.Relations.{joined_last}
 use Rattle.laws.proofs.LatestEvents.{latest-set, latest_keep, latest-writer, latest_of_lem, latest-start_of}
 use Rattle.laws.proofs.Operations.{is_read_op, is_write_op, is_start-none, starts_is, joins_is}
 use Rattle.laws.proofs.Awaited.{awaited_read}
 use Rattle.laws.proofs.WellFormed.{sync-object}
+use Rattle.recording.proofs.Accepted.{sound}
 use Rattle.recording.specs.declared.Records.{Records}
 use Rattle.order.specs.declared.TaskEvents.{TaskEvents}
 use Rattle.order.specs.declared.Latest.{Latest}
@@ -160,4 +160,4 @@ join_awaits σ e q p a h r =
 -- The object of an accepted acquire or release record is a lock, or it stands for a task.
 pub names_task : (r : Records) (e : ℕ) {op o : ℕ} → op ≡ (at (decode_all r.bytes.now) e).op
     → (o < variables) × (o ≡ object (decode_all r.bytes.now) e) → 2 ≤ op → op ≤ 3 → o < 80
-names_task r e {op} q p h k = rw p.1 (sync-object _ (events_sound r.bytes.now r.accepted) e op q h k)
+names_task r e {op} q p h k = rw p.1 (sync-object _ (sound r) e op q h k)

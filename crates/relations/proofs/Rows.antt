@@ -107,11 +107,11 @@ noted_end {σ} {walk = walk} z w last = record {
 }
 
 -- The relations of an event, off what the tables have of it.
-pub related_is : (σ : Trace) (e : ℕ) → 1 ≤ e → {h p a m op w r c n : ℕ} → h ≡ held σ e → p ≡ predecessor σ e
+pub related_is : (σ : Trace) (e : ℕ) → 1 ≤ e → {h p a m op w r c : ℕ} → h ≡ held σ e → p ≡ predecessor σ e
     → a ≡ awaited σ e → m ≡ marked σ e → op ≡ (at σ e).op → w ≡ cond (eqb op 0) a 0 → r ≡ cond (eqb m e) 0 m
-    → c ≡ ones h → n ≡ p
+    → c ≡ ones h
     → ◌≡◌ {A = Relations}
-    (record { refusal = 0; event = 0; held = h; locks = c; matching = r; writer = w; predecessor = n })
+    (record { refusal = 0; event = 0; held = h; locks = c; matching = r; writer = w; predecessor = p })
     (event_relations σ e)
-related_is σ e h q p a m o w r c n =
-    rw (n, c, w, r, q, p, a, m, o, ← (marked_match σ e h), ← (writer_off σ e))
+related_is σ e h q p a m o w r c =
+    rw (c, w, r, q, p, a, m, o, ← (marked_match σ e h), ← (writer_off σ e))

@@ -124,7 +124,7 @@ fn writer_of(operation: Op, awaited: u16) -> u64
     ensures { result ≡ cond (eqb (code operation) 0) awaited 0 }
 {
     match operation {
-        Op::Read => u64::from(awaited),
+        Op::Read => awaited as u64,
         _ => 0,
     }
 }
@@ -221,10 +221,10 @@ impl<'a> Trace<'a> {
         let held = self.held(e);
         Related {
             held,
-            locks: u64::from(held.count_ones()),
+            locks: held.count_ones() as u64,
             matching: sections::unmarked(self.matching(e), e),
             writer: writer_of(self.operation(e), self.awaited(e)),
-            predecessor: u64::from(self.predecessor(e)),
+            predecessor: self.predecessor(e) as u64,
         }
     }
 }

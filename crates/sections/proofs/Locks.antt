@@ -17,13 +17,13 @@ use Rattle.laws.specs.EventKinds.{uncounted_kind, is_uncounted, kind}
 use Rattle.laws.specs.Walked.{LatestEvents, KeptDepths, Locksets, marked_before}
 use Rattle.laws.proofs.Tests.{is_true}
 use Rattle.laws.proofs.Trace.{acquire-object, release-object, record-event}
-use Rattle.laws.proofs.Questions.{events_sound}
 use Rattle.laws.proofs.LatestEvents.{latest-set, latest_keep}
 use Rattle.laws.proofs.Locksets.{locksets_acquire, locksets_release, locksets_access}
 use Rattle.laws.proofs.EventKinds.{is_acquire-kind, is_release-kind, is_uncounted-kind}
 use Rattle.laws.proofs.WellFormed.{WellFormed, release-held}
 use Rattle.laws.proofs.OpenAcquires.{opened_acquire}
 use Rattle.laws.proofs.Matches.{marked_new, marked_release}
+use Rattle.recording.proofs.Accepted.{sound}
 use Rattle.recording.specs.declared.Records.{Records}
 use Rattle.sections.specs.declared.Kind as K
 use Rattle.sections.specs.declared.Section.{Section}
@@ -46,7 +46,7 @@ pub of_accepted : (r : Records) {e : ℕ} {k : K.Kind} {sections : OpenSections}
     × OpenBefore (decode_all r.bytes.now) e sections
     → OfKind (decode_all r.bytes.now) e k sections
 of_accepted r (first, last, kind, kept) = record {
-  sound = events_sound r.bytes.now r.accepted;
+  sound = sound r;
   event = record-event r.bytes.now _ (first, last);
   kind_is = kind;
   before = kept;

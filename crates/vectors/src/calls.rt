@@ -107,7 +107,7 @@ pub fn tell_schedule(
     text: &mut String,
 ) -> Result<(), AllocError> {
     let fields = match schedule::check_schedule(recording, pattern, schedule) {
-        Ok(valid) => [0, 0, u64::from(valid)],
+        Ok(valid) => [0, 0, valid as u64],
         Err(refusal) => refused(refusal),
     };
     text::put_answer(text, &fields)

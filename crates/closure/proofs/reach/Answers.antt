@@ -3,8 +3,8 @@
 use mathlib.Core.Path.{refl}
 use borrow.Author.Rules.{rules}
 use Rattle.model.specs.Recording.{decode_all}
-use Rattle.laws.proofs.Questions.{events_sound}
 use Rattle.laws.proofs.Turns.{settled-start}
+use Rattle.recording.proofs.Accepted.{sound}
 use Rattle.closure.proofs.Tops.{wanted_frontier, wanted-closes}
 use Rattle.closure.proofs.reach.Goals as goal
 
@@ -21,4 +21,4 @@ returns c =
     let records = c.args.trace.now.records.bytes.now in
     let want = c.wanted.result in
     wanted-closes (decode_all records) c.args.words.now want (search rules) c.wanted.ensures
-    (events_sound records c.args.trace.now.records.accepted) _ _ c.advance.ensures.0
+    (sound c.args.trace.now.records) _ _ c.advance.ensures.0

@@ -1,35 +1,29 @@
 -- `deadlock::is_acquire` meets its contract: the operation, and the object. Assumes nothing.
 use Rattle.model.specs.Recording.{decode_all}
-use Rattle.laws.proofs.WellFormed.{WellFormed}
-use Rattle.laws.proofs.Questions.{events_sound}
+use Rattle.recording.proofs.Accepted.{sound}
 use Rattle.deadlock.proofs.Chains.{acquires-not, acquires-task, acquires_own}
 use Rattle.recording.specs.declared.Op.TheVariants.{Acquire}
 use Rattle.recording.proofs.Laws.{code_apart}
 use mathlib.Core.Path.{refl}
 use borrow.Author.Tests.{le-ltb}
 use Rattle.deadlock.proofs.is_acquire.Goals as goal
-use Rattle.deadlock.proofs.is_acquire.Goals.{Start}
-
--- The records are accepted, so their trace is well-formed.
-sound : (c : goal.Start) → WellFormed (decode_all c.args.trace.now.records.bytes.now)
-sound c = events_sound c.args.trace.now.records.bytes.now c.args.trace.now.records.accepted
 
 pub returns-then-l-lt64 : goal.returns-then-l-lt64
 returns-then-l-lt64 c =
     rw c.in_mask.ensures
-    (acquires_own (decode_all c.args.trace.now.records.bytes.now) (sound (goal.at.returns-then-l-lt64 c).Start)
+    (acquires_own (decode_all c.args.trace.now.records.bytes.now) (sound c.args.trace.now.records)
     c.args.e
     c.in-Acquire.ensures c.object-l.ensures.1 refl c.if-l-lt64.true c.requires.2)
 
 pub returns-else-l-lt64 : goal.returns-else-l-lt64
 returns-else-l-lt64 c =
     rw (le-ltb c.object-l.result 64 c.if-l-lt64.false)
-    (acquires-task (decode_all c.args.trace.now.records.bytes.now) (sound (goal.at.returns-else-l-lt64 c).Start)
+    (acquires-task (decode_all c.args.trace.now.records.bytes.now) (sound c.args.trace.now.records)
     c.args.e
     c.in-Acquire.ensures c.object-l.ensures.1 c.if-l-lt64.false)
 
 pub returns-in_default : goal.returns-in_default
 returns-in_default c =
-    acquires-not (decode_all c.args.trace.now.records.bytes.now) (sound (goal.at.returns-in_default c).Start)
+    acquires-not (decode_all c.args.trace.now.records.bytes.now) (sound c.args.trace.now.records)
     c.args.e
     c.operation.ensures (code_apart _ Acquire c.in_default.not-Acquire)

@@ -7,7 +7,7 @@ use Rattle.laws.specs.EventKinds.{marked}
 use Rattle.laws.proofs.Trace.{record-event}
 use Rattle.laws.proofs.Marks.{WithMark, marked_outer}
 use Rattle.laws.proofs.WellFormed.{acquire_lt}
-use Rattle.laws.proofs.Questions.{events_sound}
+use Rattle.recording.proofs.Accepted.{sound}
 use Rattle.recording.specs.declared.Op.TheVariants.{Acquire}
 use Rattle.recording.proofs.Laws.{code_apart}
 use Rattle.frontier.proofs.Leaves.{other_visited, uncounted_visited, acquire_visited, awaited_in}
@@ -29,7 +29,7 @@ visit_acquire-requires c =
     let outer = marked_outer u refl c.if-matching-f.true in (
       c.requires.0,
       c.requires.1,
-      acquire_lt (decode_all b) (events_sound b c.args.trace.now.records.accepted) c.args.f (rw outer tt),
+      acquire_lt (decode_all b) (sound c.args.trace.now.records) c.args.f (rw outer tt),
     )
 
 pub want_event-requires : goal.want_event-requires

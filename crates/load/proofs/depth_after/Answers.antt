@@ -4,7 +4,7 @@ use Prim.Native.Nat.{◌+◌, ◌-◌, ◌<◌}
 use native.Mathlib.Omega.{arith}
 use Rattle.model.specs.Recording.{decode_all}
 use Rattle.laws.specs.Walked.{LockDepth}
-use Rattle.laws.proofs.Questions.{events_sound}
+use Rattle.recording.proofs.Accepted.{sound}
 use Rattle.recording.specs.declared.Op.TheVariants.{Acquire, Release}
 use Rattle.recording.proofs.Laws.{code_apart, code_lt}
 use Rattle.load.proofs.Laws.{Coming, depth_below, access-depth, other-depth, enter-depth, leave-depth}
@@ -15,7 +15,7 @@ use Rattle.load.proofs.depth_after.Goals.{Start, In-Release}
 coming : (c : goal.Start) → let a = c.args in Coming (decode_all a.records.now.bytes.now) a.e a.lock a.depth
 coming c =
     let records = c.args.records.now in
-    record { sound = events_sound records.bytes.now records.accepted; depth_is = c.requires.2 }
+    record { sound = sound records; depth_is = c.requires.2 }
 
 -- What a release does.
 back : (c : goal.In-Release) → let a = c.args in

@@ -2,8 +2,8 @@
 use mathlib.Core.Path.{sym, ◌∙◌}
 use Rattle.model.specs.Recording.{decode_all}
 use Rattle.laws.specs.Returning.{Returning}
-use Rattle.laws.proofs.Questions.{events_sound}
 use Rattle.laws.proofs.Returning.{returning_spread}
+use Rattle.recording.proofs.Accepted.{sound}
 use Rattle.pruning.proofs.ways_back.Goals as goal
 use Rattle.pruning.proofs.ways_back.Goals.{After-fill_back-back}
 
@@ -13,7 +13,7 @@ filled : (c : After-fill_back-back) → Returning (decode_all c.args.trace.now.r
     c.fill_back-back.result
 filled c =
     let b = c.args.trace.now.records.bytes.now in
-    returning_spread (decode_all b) (events_sound b c.args.trace.now.records.accepted) c.args.a c.args.count
+    returning_spread (decode_all b) (sound c.args.trace.now.records) c.args.a c.args.count
     c.args.lead.now _ c.requires.3 c.fill_back-back.ensures.0 (c.fill_back-back.ensures.1 ∙ c.held.ensures)
 
 pub returns-then-not-lock_in_mask : goal.returns-then-not-lock_in_mask

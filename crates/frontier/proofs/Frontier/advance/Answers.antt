@@ -1,9 +1,9 @@
--- `frontier::advance` meets its contract: each turn brings the frontier on, until no task has more to reach.
+-- `frontier::Frontier::advance` meets its contract: each turn brings the frontier on, until no task has more to reach.
 -- Assumes nothing.
 use native.Mathlib.Omega.{arith}
 use Rattle.model.specs.Recording.{decode_all}
 use Rattle.laws.proofs.Trace.{decode_all-length}
-use Rattle.laws.proofs.Questions.{events_sound}
+use Rattle.recording.proofs.Accepted.{sound}
 use Rattle.frontier.proofs.Rounds.{round_end, round_less}
 use Rattle.frontier.proofs.Frontier.advance.Goals as goal
 
@@ -19,4 +19,4 @@ returns c =
     let k = c.loop-t in
     let b = c.args.trace.now.records.bytes.now in
     round_end (decode_all b) c.args.want.now k.self.front k.want k.self.latest k.invariant
-    (events_sound b c.args.trace.now.records.accepted) c.in_default.ensures
+    (sound c.args.trace.now.records) c.in_default.ensures

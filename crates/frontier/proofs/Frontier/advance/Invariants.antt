@@ -1,4 +1,4 @@
--- `frontier::advance` meets its contract: each turn brings the frontier on, until no task has more to reach.
+-- `frontier::Frontier::advance` meets its contract: each turn brings the frontier on, until no task has more to reach.
 -- Assumes nothing.
 use Prim.Native.Nat.{◌-◌}
 use Rattle.model.specs.Recording.{decode_all}

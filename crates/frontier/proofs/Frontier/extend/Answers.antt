@@ -1,4 +1,4 @@
--- `frontier::extend` meets its contract: with the predecessor wanted, the frontier advances. Assumes nothing.
+-- `frontier::Frontier::extend` meets its contract: with the predecessor wanted, the frontier advances. Assumes nothing.
 use Prim.Native.Nat.{◌≤◌}
 use mathlib.Core.Path.{◌≡◌}
 use native.Mathlib.Omega.{arith}
@@ -9,7 +9,7 @@ use Rattle.laws.specs.Frontier.{wanted}
 use Rattle.laws.proofs.Trace.{decode_all-length}
 use Rattle.laws.proofs.Relations.{predecessor_below}
 use Rattle.laws.proofs.Wanted.{settled-wanted}
-use Rattle.laws.proofs.Questions.{events_sound}
+use Rattle.recording.proofs.Accepted.{sound}
 use Rattle.frontier.proofs.Frontier.extend.Goals as goal
 use Rattle.frontier.proofs.Frontier.extend.Goals.{After-want_event, Start}
 
@@ -40,7 +40,7 @@ want_event-requires c =
 pub advance-requires : goal.advance-requires
 advance-requires c =
     rw (more (goal.at.advance-requires c).After-want_event)
-    (settled-wanted _ (events_sound c.args.trace.now.records.bytes.now c.args.trace.now.records.accepted) _ _ _
+    (settled-wanted _ (sound c.args.trace.now.records) _ _ _
     c.requires.0 _
     (known (goal.at.advance-requires c).Start))
 

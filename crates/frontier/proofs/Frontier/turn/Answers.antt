@@ -1,4 +1,4 @@
--- `frontier::turn` meets its contract: the frontier is on its way from the wanted event to the old one, or to
+-- `frontier::Frontier::turn` meets its contract: the frontier is on its way from the wanted event to the old one, or to
 -- the task's start. Assumes nothing.
 use Prim.Native.Nat.{◌≤◌}
 use mathlib.Core.Path.{refl}
@@ -7,7 +7,7 @@ use lib.ListN.{length, get_or, set}
 use Rattle.model.specs.Recording.{decode_all}
 use Rattle.laws.proofs.Trace.{decode_all-length}
 use Rattle.laws.proofs.Relations.{predecessor_below}
-use Rattle.laws.proofs.Questions.{events_sound}
+use Rattle.recording.proofs.Accepted.{sound}
 use Rattle.frontier.proofs.Turning.{Turning, turning_begin, turning-step, turning-again}
 use Rattle.frontier.proofs.Turning.{turning_end}
 use Rattle.frontier.proofs.Frontier.turn.Goals as goal
@@ -21,7 +21,7 @@ begun : (c : goal.After-begin-end) → let s =
     s.args.want.now c.begin-end.new.want s.args.self.now.latest s.args.t
     (get_or s.args.self.now.front s.args.t 0) c.begin-end.result (get_or s.args.want.now s.args.t 0)
 begun c =
-    turning_begin _ (events_sound c.args.trace.now.records.bytes.now c.args.trace.now.records.accepted) _ _ _ _
+    turning_begin _ (sound c.args.trace.now.records) _ _ _ _
     c.requires.0 c.requires.1
     c.requires.2
     c.begin-end.ensures.0 c.begin-end.ensures.1
@@ -33,7 +33,7 @@ event c = (c.loop-f.invariant.turning.more c.loop-f-test.true).3.event
 
 pub loop-f-init : goal.loop-f-init
 loop-f-init c = record {
-  turning = turning-again _ (events_sound c.args.trace.now.records.bytes.now c.args.trace.now.records.accepted)
+  turning = turning-again _ (sound c.args.trace.now.records)
       (begun (goal.at.loop-f-init c).After-begin-end);
   front_is = refl;
 }
@@ -59,7 +59,7 @@ loop-f-preserved c =
     let k = c.loop-f.invariant in
     record {
       turning = rw (c.predecessor-f.ensures, v.wanted, v.latest)
-          (turning-step _ (events_sound c.args.trace.now.records.bytes.now c.args.trace.now.records.accepted) _ _ _ _ _ _
+          (turning-step _ (sound c.args.trace.now.records) _ _ _ _ _ _
           _ _
           k.turning c.loop-f-test.true);
       front_is = k.front_is;
@@ -69,5 +69,5 @@ pub returns : goal.returns
 returns c =
     let k = c.loop-f.invariant in
     rw k.front_is
-    (turning_end _ (events_sound c.args.trace.now.records.bytes.now c.args.trace.now.records.accepted) c.args.self.now.front
+    (turning_end _ (sound c.args.trace.now.records) c.args.self.now.front
     (begun (goal.at.returns c).After-begin-end) k.turning c.loop-f-test.false refl)

@@ -1,4 +1,4 @@
--- `frontier::turn` meets its contract: the frontier is on its way from the wanted event to the old one, or to
+-- `frontier::Frontier::turn` meets its contract: the frontier is on its way from the wanted event to the old one, or to
 -- the task's start. Assumes nothing.
 use mathlib.Core.Path.{◌≡◌}
 use Rattle.model.specs.Recording.{decode_all}

@@ -1,4 +1,4 @@
--- `listing::search::descend` and `listing::search::extend` meet their contracts, by the number of events
+-- `listing::search::+descend_extend` and `listing::search::extend` meet their contracts, by the number of events
 -- that may still follow: the scan has taken what the events so far add. Assumes nothing.
 use Prim.Native.Nat.{ℕ, suc, ◌-◌, ◌*◌, ◌≤◌}
 use mathlib.Core.Path.{◌≡◌}

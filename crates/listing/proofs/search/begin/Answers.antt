@@ -5,8 +5,8 @@ use native.Mathlib.Omega.{arith}
 use Rattle.model.specs.Recording.{decode_all}
 use Rattle.laws.specs.Frontier.{Before}
 use Rattle.laws.proofs.Trace.{record-event}
-use Rattle.laws.proofs.Questions.{events_sound}
 use Rattle.laws.proofs.Before.{before-start, before-extend}
+use Rattle.recording.proofs.Accepted.{sound}
 use Rattle.listing.proofs.Paths.{open_start}
 use Rattle.listing.proofs.search.begin.Goals as goal
 use Rattle.listing.proofs.search.begin.Goals.{After-empty-frontier}
@@ -27,7 +27,7 @@ extend-requires-2 c =
     let trace = search.links.now.trace.now in
     let σ = decode_all trace.records.bytes.now in
     let event = record-event trace.records.bytes.now search.first (c.requires.0, c.requires.1) in
-    let before = before-extend σ (events_sound trace.records.bytes.now trace.records.accepted) [] _ _
+    let before = before-extend σ (sound trace.records) [] _ _
     search.first _ _ (start (goal.at.extend-requires-2 c).After-empty-frontier) event.0 event.1 c.extend.ensures in (
       open_start σ search.first search.size.events _ _ event.0 event.1 c.requires.2 search.size.permitted.0
           c.start-path.ensures.len c.start-path.ensures.chain before,

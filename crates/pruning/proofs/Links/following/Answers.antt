@@ -1,4 +1,4 @@
--- `pruning::following` meets its contract: no event so far may follow. Assumes nothing.
+-- `pruning::Links::following` meets its contract: no event so far may follow. Assumes nothing.
 use Prim.Native.Nat.{ℕ}
 use mathlib.Core.Path.{◌≡◌, sym, ◌∙◌}
 use mathlib.Core.Bool.{false}
@@ -6,9 +6,9 @@ use native.Mathlib.Omega.{arith}
 use Rattle.model.specs.Recording.{decode_all}
 use Rattle.std.specs.Prelude.{[]}
 use Rattle.laws.specs.Chain.{signature, fits}
+use Rattle.recording.proofs.Accepted.{sound}
 use Rattle.deadlock.specs.Judged.{of_events}
 use Rattle.laws.proofs.Trace.{decode_all-length}
-use Rattle.laws.proofs.Questions.{events_sound}
 use Rattle.laws.proofs.WellFormed.{acquire_lt}
 use Rattle.pruning.specs.Linked.{is_near}
 use Rattle.pruning.proofs.Walks.{walked-start, walked-none, walked_found, walked-next, alone}
@@ -36,7 +36,7 @@ hop-requires c =
     let trace = c.args.self.now.trace.now in
     let b = trace.records.bytes.now in (
       rw c.object-l.ensures.1
-          (acquire_lt (decode_all b) (events_sound b trace.records.accepted) c.args.chain.now.last
+          (acquire_lt (decode_all b) (sound trace.records) c.args.chain.now.last
           c.requires.3),
       omega (arith, c.loop-x.invariant.high, decode_all-length b),
     )

@@ -1,4 +1,4 @@
--- `pruning::following` meets its contract: no event so far may follow. Assumes nothing.
+-- `pruning::Links::following` meets its contract: no event so far may follow. Assumes nothing.
 use Prim.Native.Nat.{◌-◌}
 use lib.ListN.{length}
 use Rattle.model.specs.Recording.{decode_all}

@@ -1,4 +1,4 @@
--- `pruning::link` meets its contract: the table has the link of each event. Assumes nothing.
+-- `pruning::Links::link` meets its contract: the table has the link of each event. Assumes nothing.
 use native.Mathlib.Omega.{arith}
 use Rattle.model.specs.Recording.{decode_all}
 use Rattle.laws.proofs.Trace.{decode_all-length}

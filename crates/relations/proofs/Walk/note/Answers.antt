@@ -7,8 +7,8 @@ use lib.Dec.{T}
 use Rattle.model.specs.Trace.{is_release}
 use Rattle.model.specs.Recording.{decode_all}
 use Rattle.laws.proofs.Trace.{record-event}
-use Rattle.laws.proofs.Questions.{events_sound}
 use Rattle.laws.proofs.EventKinds.{is_release-kind}
+use Rattle.recording.proofs.Accepted.{sound}
 use Rattle.sections.specs.declared.Kind.TheVariants.{Release}
 use Rattle.sections.specs.Kinds.{kind_code}
 use Rattle.sections.proofs.KindOf.{kind_apart}
@@ -22,7 +22,7 @@ returns-in-Release c =
     let is = is_release-kind (decode_all b) c.args.e c.kind_of-kind.ensures.code_is in
     let release : T (is_release (decode_all b) c.args.e) = rw (is, c.in-Release.is) tt in (
       record { section = c.note.ensures; latest = c.note-2.ensures },
-      release_noted c.requires.3 (search rules) c.row_of-row.ensures.1 (events_sound b r.accepted)
+      release_noted c.requires.3 (search rules) c.row_of-row.ensures.1 (sound r)
           (record-event b c.args.e (c.requires.0, c.requires.1)) release,
     )
 

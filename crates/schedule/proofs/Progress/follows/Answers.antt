@@ -1,4 +1,4 @@
--- `schedule::follows` meets its contract: each return cites the law of its case. Assumes nothing.
+-- `schedule::Progress::follows` meets its contract: each return cites the law of its case. Assumes nothing.
 use Prim.Native.Nat.{ℕ, ◌*◌, ◌≤◌}
 use mathlib.Core.Path.{◌≡◌, refl, sym, ◌∙◌}
 use native.Mathlib.Omega.{arith}
@@ -9,8 +9,8 @@ use Rattle.model.specs.Recording.{decode_all}
 use Rattle.laws.specs.EventKinds.{marked}
 use Rattle.laws.proofs.Trace.{record-event}
 use Rattle.laws.proofs.Marks.{marked_outer}
-use Rattle.laws.proofs.Questions.{events_sound}
 use Rattle.laws.proofs.WellFormed.{acquire_lt}
+use Rattle.recording.proofs.Accepted.{sound}
 use Rattle.recording.specs.declared.Op.TheVariants.{Read, Acquire}
 use Rattle.recording.proofs.Laws.{code_apart}
 use Rattle.schedule.proofs.Laws.{no_such_event, not-next}
@@ -36,7 +36,7 @@ unpacked : (c : goal.After-operation) (op m : ℕ)
     → Asked (decode_all c.args.trace.now.records.bytes.now) c.args.self.now c.args.e op m
 unpacked c op m is mark =
     let (h, k) = inside (goal.at.After-operation c).Else-len-at in record {
-      sound = events_sound c.args.trace.now.records.bytes.now c.args.trace.now.records.accepted;
+      sound = sound c.args.trace.now.records;
       inside = (h, k);
       next = sym c.is_next.ensures ∙ c.if-not-is_next.false;
       mark = record { event = h; op_is = is; mark_is = mark };
@@ -57,7 +57,7 @@ returns-then-len-at c = λ before z.
 pub returns-then-not-is_next : goal.returns-then-not-is_next
 returns-then-not-is_next c = λ before z.
     not-next _ before _ z c.args.e (inside (goal.at.returns-then-not-is_next c).Else-len-at)
-    (events_sound c.args.trace.now.records.bytes.now c.args.trace.now.records.accepted)
+    (sound c.args.trace.now.records)
     (sym c.is_next.ensures ∙ c.if-not-is_next.true)
 
 pub returns-in-Read : goal.returns-in-Read

@@ -1,4 +1,4 @@
--- `schedule::is_listed` meets its contract: each return cites the law of its case. Assumes nothing.
+-- `schedule::Progress::is_listed` meets its contract: each return cites the law of its case. Assumes nothing.
 use borrow.Author.Tests.{eq-eqb}
 use Rattle.schedule.proofs.Asking.{listed-none, listed_some}
 use Rattle.schedule.proofs.Progress.is_listed.Goals as goal

@@ -1,4 +1,4 @@
--- `schedule::is_ready` meets its contract: each return cites the law of its case. Assumes nothing.
+-- `schedule::Progress::is_ready` meets its contract: each return cites the law of its case. Assumes nothing.
 use mathlib.Core.Path.{◌∙◌}
 use borrow.Author.Tests.{eq-eqb}
 use Rattle.schedule.proofs.Asking.{ready-none, ready_some}

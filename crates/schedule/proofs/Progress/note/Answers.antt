@@ -1,15 +1,15 @@
--- `schedule::note` meets its contract: each return cites the law of its case. Assumes nothing.
+-- `schedule::Progress::note` meets its contract: each return cites the law of its case. Assumes nothing.
 use Prim.Native.Nat.{ℕ}
 use mathlib.Core.Path.{◌≡◌, refl}
 use native.Mathlib.Omega.{arith}
 use Rattle.model.specs.Trace.{at}
 use Rattle.model.specs.Recording.{decode_all}
+use Rattle.recording.proofs.Accepted.{sound}
 use Rattle.recording.specs.declared.Op.{Op}
 use Rattle.recording.specs.declared.Op.TheVariants.{Write, Acquire}
 use Rattle.recording.specs.Asked.{code}
 use Rattle.recording.proofs.Laws.{code_lt, code_apart}
 use Rattle.laws.specs.EventKinds.{marked}
-use Rattle.laws.proofs.Questions.{events_sound}
 use Rattle.laws.proofs.Operations.{is_acquire-none}
 use Rattle.laws.proofs.Marks.{marked_uncounted, marked_outer}
 use Rattle.laws.proofs.WellFormed.{acquire_lt}
@@ -23,7 +23,7 @@ unpacked : (c : goal.After-object-object) (o : Op) (m : ℕ)
     → m ≡ marked (decode_all c.args.trace.now.records.bytes.now) c.args.e
     → Noted (decode_all c.args.trace.now.records.bytes.now) c.args.e (code o) c.task.result c.object-object.result m
 unpacked c o m is mark = record {
-  sound = events_sound c.args.trace.now.records.bytes.now c.args.trace.now.records.accepted;
+  sound = sound c.args.trace.now.records;
   event = record {
     op_is = (code_lt o, is);
     task_is = c.task.ensures;

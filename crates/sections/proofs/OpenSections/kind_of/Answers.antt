@@ -6,8 +6,8 @@ use native.Mathlib.Omega.{arith}
 use Rattle.model.specs.Trace.{at}
 use Rattle.model.specs.Recording.{decode_all}
 use Rattle.laws.proofs.Trace.{record-event}
-use Rattle.laws.proofs.Questions.{events_sound}
 use Rattle.laws.proofs.EventKinds.{kind_access}
+use Rattle.recording.proofs.Accepted.{sound}
 use Rattle.recording.specs.declared.Op.TheVariants as Op
 use Rattle.recording.proofs.Laws.{code_lt, code_apart}
 use Rattle.sections.specs.declared.Kind.TheVariants.{Read, Write, Acquire, Release, Uncounted}
@@ -22,7 +22,7 @@ coming : (c : goal.After-operation) {op : ℕ} → op ≡ (at (decode_all c.args
     → Coming (decode_all c.args.records.now.bytes.now) c.args.e op c.object-l.result c.args.self.now.locks
 coming c is small =
     let r = c.args.records.now in record {
-      sound = events_sound r.bytes.now r.accepted;
+      sound = sound r;
       event = record-event r.bytes.now c.args.e (c.requires.0, c.requires.1);
       op_is = (small, is);
       object_is = c.object-l.ensures.1;

@@ -9,7 +9,7 @@ use Rattle.model.specs.Bytes.{numbers}
 use Rattle.model.specs.Recording.{decode_all}
 use Rattle.laws.proofs.Before.{before-start}
 use Rattle.laws.proofs.Trace.{record-event}
-use Rattle.laws.proofs.Questions.{events_sound}
+use Rattle.recording.proofs.Accepted.{sound}
 use Rattle.deadlock.proofs.Verdicts.{before-next}
 use Rattle.deadlock.proofs.pattern.Pattern.reach.Goals as goal
 
@@ -25,7 +25,7 @@ loop-i-preserved c =
     let event = record-event b c.event.result (h, k) in
     let ns = numbers p.bytes.now in
     let inside : l.i < length ns = omega (arith, c.loop-i-test.true, c.len-i-end.ensures) in
-    before-next (decode_all b) ns l.i inside (events_sound b p.trace.now.records.accepted)
+    before-next (decode_all b) ns l.i inside (sound p.trace.now.records)
     l.frontier.front l.frontier.latest _ _ _ is l.invariant event.0 event.1 c.extend.ensures
 
 pub returns : goal.returns

@@ -1,11 +1,11 @@
--- `pruning::Candidates::note` meets its contract: the acquire is no candidate, or its held locks are noted
+-- `pruning::candidates::Candidates::note` meets its contract: the acquire is no candidate, or its held locks are noted
 -- with its lock. Assumes nothing.
 use Prim.Native.Nat.{◌<◌}
 use native.Mathlib.Omega.{arith}
 use Rattle.model.specs.Trace.{locks, object}
 use Rattle.model.specs.Recording.{decode_all}
 use Rattle.laws.proofs.WellFormed.{acquire_lt}
-use Rattle.laws.proofs.Questions.{events_sound}
+use Rattle.recording.proofs.Accepted.{sound}
 use Rattle.pruning.specs.Candidates.{candidates_of}
 use Rattle.pruning.proofs.Leads.{led_noted}
 use Rattle.pruning.proofs.candidates.Candidates.note.Goals as goal
@@ -16,7 +16,7 @@ lock : (c : goal.Start) → object (decode_all c.args.trace.now.records.bytes.no
 lock c =
     let trace = c.args.trace.now in
     acquire_lt (decode_all trace.records.bytes.now)
-    (events_sound trace.records.bytes.now trace.records.accepted) c.args.e c.requires.2
+    (sound trace.records) c.args.e c.requires.2
 
 pub bounds-lead-l : goal.bounds-lead-l
 bounds-lead-l c =
