@@ -16,28 +16,43 @@ pub use found::Found;
 #[derive(Clone, Copy, Debug, PartialEq, Eq)]
 pub struct Full;
 
-// Writes the entry of a pattern at the front of the bytes: its size, and then its events.
-fn write_entry(out: &mut [u8], pattern: &[u16])
-    requires { (length pattern.now ≤ largest_pattern) × (2 * length pattern.now + 2 ≤ length out.old) }
-    ensures { out.new ≡ sets out.old 0 (encode (length pattern.now ∷ pattern.now)) }
-{
-    recording::put_number(out, 0, pattern.len() as u16);
-    for (i, event) in pattern.iter().enumerate() {
-        recording::put_number(out, 2 * i + 2, *event);
-    }
+// The entry of a pattern: its size, and then its events, two bytes each.
+#[derive(Clone, Copy)]
+struct Entry<'a> {
+    events: &'a [u16],
+    ghost sized: { length events.now ≤ largest_pattern },
 }
 
-// Writes the entry of a pattern into the rest of the output, from a position on, where it fits there.
-fn write_rest(out: &mut [u8], at: usize, pattern: &[u16])
-    requires { (length pattern.now ≤ largest_pattern)
-        × (at + (2 * length pattern.now + 2) < 18446744073709551616) }
-    ensures { at + (2 * length pattern.now + 2) ≤ length out.old → out.new
-        ≡ sets out.old at (encode (length pattern.now ∷ pattern.now)) }
-{
-    if out.len() < at + (2 * pattern.len() + 2) {
-        return;
+impl<'a> Entry<'a> {
+    // How many bytes it takes.
+    fn bytes(&self) -> usize
+        ensures { result ≡ 2 * length self.now.events.now + 2 }
+    {
+        2 * self.events.len() + 2
     }
-    write_entry(&mut out[at..], pattern);
+
+    // Writes it at the front of the bytes.
+    fn write(&self, out: &mut [u8])
+        requires { 2 * length self.now.events.now + 2 ≤ length out.old }
+        ensures { out.new ≡ sets out.old 0 (encode (length self.now.events.now ∷ self.now.events.now)) }
+    {
+        recording::put_number(out, 0, self.events.len() as u16);
+        for (i, event) in self.events.iter().enumerate() {
+            recording::put_number(out, 2 * i + 2, *event);
+        }
+    }
+
+    // Writes it into the rest of the output, from a position on, where it fits there.
+    fn write_rest(&self, out: &mut [u8], at: usize)
+        requires { at + (2 * length self.now.events.now + 2) < 18446744073709551616 }
+        ensures { at + (2 * length self.now.events.now + 2) ≤ length out.old → out.new
+            ≡ sets out.old at (encode (length self.now.events.now ∷ self.now.events.now)) }
+    {
+        if out.len() < at + self.bytes() {
+            return;
+        }
+        self.write(&mut out[at..]);
+    }
 }
 
 // Takes a pattern: counts it and writes its entry, unless the entries then exceed the room.
@@ -45,11 +60,12 @@ pub fn take_pattern(out: &mut [u8], pattern: &[u16], found: Found) -> Result<Fou
     requires { length pattern.now ≤ largest_pattern }
     ensures { Adds (pattern.now ∷ []) out.old out.new found result }
 {
-    let bytes = 2 * pattern.len() + 2;
+    let entry = Entry { events: pattern };
+    let bytes = entry.bytes();
     if found.room - found.bytes < bytes {
         return Err(Full);
     }
-    write_rest(out, found.bytes, pattern);
+    entry.write_rest(out, found.bytes);
     Ok(Found {
         patterns: found.patterns + 1,
         bytes: found.bytes + bytes,
