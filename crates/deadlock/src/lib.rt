@@ -104,7 +104,8 @@ impl Chain {
         requires { (1 ≤ self.now.last) × (2 * self.now.last ≤ length trace.now.records.bytes.now)
             × T (is_acquire (decode_all trace.now.records.bytes.now) self.now.last)
             × (1 ≤ e) × (2 * e ≤ length trace.now.records.bytes.now) }
-        ensures { result ≡ fits (signature (decode_all trace.now.records.bytes.now)) (of_events [] self.now) e }
+        ensures { result
+            ≡ fits (signature (decode_all trace.now.records.bytes.now)) (of_events [] self.now) e }
     {
         let held = trace.held(e);
         if !lock_in_mask(trace, held, self.last) {
@@ -140,7 +141,8 @@ impl Chain {
         requires { (1 ≤ self.now.first) × (2 * self.now.first ≤ length trace.now.records.bytes.now)
             × (1 ≤ self.now.last) × (2 * self.now.last ≤ length trace.now.records.bytes.now)
             × T (is_acquire (decode_all trace.now.records.bytes.now) self.now.last) }
-        ensures { result ≡ closes (signature (decode_all trace.now.records.bytes.now)) (of_events [] self.now) }
+        ensures { result
+            ≡ closes (signature (decode_all trace.now.records.bytes.now)) (of_events [] self.now) }
     {
         lock_in_mask(trace, trace.held(self.first), self.last)
     }
@@ -232,7 +234,8 @@ fn write_one(trace: &Trace, frontier: &Frontier, out: &mut [u8], at: usize, e: u
 
 // Writes the events in the set of the frontier at the output's front, in recording order and two bytes each.
 fn write_behind(trace: &Trace, frontier: &Frontier, out: &mut [u8])
-    requires { (2 * length (behind (decode_all trace.now.records.bytes.now) frontier.now.front) ≤ length out.old) }
+    requires { (2 * length (behind (decode_all trace.now.records.bytes.now) frontier.now.front)
+        ≤ length out.old) }
     ensures { out.new ≡ sets out.old 0
         (encode (behind (decode_all trace.now.records.bytes.now) frontier.now.front)) }
 {

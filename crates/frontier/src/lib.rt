@@ -156,7 +156,8 @@ impl Frontier {
 
     // Extends the closed set by the predecessor of event e.
     pub fn extend(&mut self, trace: &Trace, e: usize)
-        requires { Settled (decode_all trace.now.records.bytes.now) self.old.front self.old.front self.old.latest
+        requires { Settled (decode_all trace.now.records.bytes.now) self.old.front self.old.front
+            self.old.latest
             × (1 ≤ e) × (2 * e ≤ length trace.now.records.bytes.now) }
         ensures { Advanced (decode_all trace.now.records.bytes.now)
             (wanted (decode_all trace.now.records.bytes.now) self.old.front

@@ -14,4 +14,5 @@ use Rattle.deadlock.proofs.avoids.Given as goal
 abbrev pub invariant-loop-i : goal.invariant-loop-i
 invariant-loop-i g l =
     (ns : List ℕ) → Gives (goal.F-post g l.event) l.count ns
-    → Passing (λ e. not (leb e (get_or l.frontier.front (task (decode_all l.trace.records.bytes.now) e) 0))) ns l.i
+    → Passing
+    (λ e. not (leb e (get_or l.frontier.front (task (decode_all l.trace.records.bytes.now) e) 0))) ns l.i

@@ -6,4 +6,5 @@ use Rattle.deadlock.specs.Judged.{behind_below}
 use Rattle.deadlock.proofs.count_behind.Given as goal
 
 abbrev pub invariant-loop-e : goal.invariant-loop-e
-invariant-loop-e l = l.count ≡ length (behind_below (decode_all l.trace.records.bytes.now) l.frontier.front l.e)
+invariant-loop-e l =
+    l.count ≡ length (behind_below (decode_all l.trace.records.bytes.now) l.frontier.front l.e)

@@ -10,5 +10,5 @@ use Rattle.deadlock.proofs.write_behind.Given as goal
 abbrev pub invariant-loop-e : goal.invariant-loop-e
 invariant-loop-e l =
     (l.at ≡ length (encode (behind_below (decode_all l.trace.records.bytes.now) l.frontier.front l.e)))
-    × (l.out ≡ sets l.initial.out 0 (encode (behind_below (decode_all l.trace.records.bytes.now) l.frontier.front
-    l.e)))
+    × (l.out ≡ sets l.initial.out 0 (encode
+    (behind_below (decode_all l.trace.records.bytes.now) l.frontier.front l.e)))

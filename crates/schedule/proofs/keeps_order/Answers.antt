@@ -10,7 +10,8 @@ use Rattle.schedule.proofs.keeps_order.Goals.{After-follows}
 asked : (c : goal.After-follows)
     → let a = c.args in
     let l = c.loop-i in
-    Turn (decode_all a.trace.now.records.bytes.now) a.schedule.now l.i l.progress c.number-e.result c.follows.result
+    Turn (decode_all a.trace.now.records.bytes.now) a.schedule.now l.i l.progress c.number-e.result
+    c.follows.result
 asked c = record {
   walking = c.loop-i.invariant;
   here = c.loop-i-test.true;

@@ -25,7 +25,8 @@ pub returns : goal.returns
 returns c =
     let a = c.args in
     c.is_acquire.ensures
-    ∙ fits_acquire (decode_all a.trace.now.records.bytes.now) (of_events [] a.self.now) a.e c.held-held.ensures
+    ∙ fits_acquire (decode_all a.trace.now.records.bytes.now) (of_events [] a.self.now) a.e
+    c.held-held.ensures
     c.task.ensures.1
     (sym c.lock_in_mask.ensures ∙ c.if-not-lock_in_mask.false)
     (sym c.in_mask.ensures ∙ c.if-in_mask.false) c.if-self-held-ne0.false

@@ -1,5 +1,5 @@
--- `frontier::Frontier::advance` meets its contract: each turn brings the frontier on, until no task has more to reach.
--- Assumes nothing.
+-- `frontier::Frontier::advance` meets its contract: each turn brings the frontier on, until no task has more
+-- to reach. Assumes nothing.
 use native.Mathlib.Omega.{arith}
 use Rattle.model.specs.Recording.{decode_all}
 use Rattle.laws.proofs.Trace.{decode_all-length}
@@ -12,7 +12,8 @@ loop-t-smaller c =
     let k = c.loop-t in
     let b = c.args.trace.now.records.bytes.now in
     round_less (decode_all b) c.args.want.now k.self.front k.want k.self.latest k.invariant
-    (omega (arith, c.args.trace.now.records.short, decode_all-length b)) _ c.in-Some.ensures _ _ _ c.turn.ensures
+    (omega (arith, c.args.trace.now.records.short, decode_all-length b)) _ c.in-Some.ensures _ _ _
+    c.turn.ensures
 
 pub returns : goal.returns
 returns c =

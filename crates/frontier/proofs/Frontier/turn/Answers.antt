@@ -1,5 +1,5 @@
--- `frontier::Frontier::turn` meets its contract: the frontier is on its way from the wanted event to the old one, or to
--- the task's start. Assumes nothing.
+-- `frontier::Frontier::turn` meets its contract: the frontier is on its way from the wanted event to the old
+-- one, or to the task's start. Assumes nothing.
 use Prim.Native.Nat.{◌≤◌}
 use mathlib.Core.Path.{refl}
 use native.Mathlib.Omega.{arith}

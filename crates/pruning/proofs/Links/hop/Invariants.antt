@@ -1,4 +1,5 @@
--- `pruning::Links::hop` meets its contract: no acquire of a block that was passed over is near. Assumes nothing.
+-- `pruning::Links::hop` meets its contract: no acquire of a block that was passed over is near. Assumes
+-- nothing.
 use Prim.Native.Nat.{◌-◌}
 use lib.ListN.{length}
 use Rattle.model.specs.Recording.{decode_all}

@@ -1,5 +1,5 @@
--- `schedule::Progress::is_next` meets its contract: the two entries are the predecessor and the latest listed event.
--- Assumes nothing.
+-- `schedule::Progress::is_next` meets its contract: the two entries are the predecessor and the latest listed
+-- event. Assumes nothing.
 use mathlib.Core.Path.{◌∙◌}
 use Rattle.schedule.proofs.Asking.{next_own, next_late, next_start, predecessor_in}
 use Rattle.schedule.proofs.Progress.is_next.Goals as goal

@@ -1,4 +1,5 @@
--- `schedule::Progress::is_unlocked` meets its contract: each return cites the law of its case. Assumes nothing.
+-- `schedule::Progress::is_unlocked` meets its contract: each return cites the law of its case. Assumes
+-- nothing.
 use mathlib.Core.Path.{◌∙◌}
 use Rattle.schedule.proofs.Asking.{unlocked_first, unlocked_late, unlocked_matched, matching_in}
 use Rattle.schedule.proofs.Progress.is_unlocked.Goals as goal

@@ -21,7 +21,8 @@ use Rattle.schedule.proofs.Progress.note.Goals.{After-object-object, After-match
 unpacked : (c : goal.After-object-object) (o : Op) (m : ℕ)
     → code o ≡ (at (decode_all c.args.trace.now.records.bytes.now) c.args.e).op
     → m ≡ marked (decode_all c.args.trace.now.records.bytes.now) c.args.e
-    → Noted (decode_all c.args.trace.now.records.bytes.now) c.args.e (code o) c.task.result c.object-object.result m
+    → Noted (decode_all c.args.trace.now.records.bytes.now) c.args.e (code o) c.task.result
+    c.object-object.result m
 unpacked c o m is mark = record {
   sound = sound c.args.trace.now.records;
   event = record {

@@ -1,5 +1,5 @@
--- `pruning::candidates::Candidates::note` meets its contract: the acquire is no candidate, or its held locks are noted
--- with its lock. Assumes nothing.
+-- `pruning::candidates::Candidates::note` meets its contract: the acquire is no candidate, or its held locks
+-- are noted with its lock. Assumes nothing.
 use Prim.Native.Nat.{◌<◌}
 use native.Mathlib.Omega.{arith}
 use Rattle.model.specs.Trace.{locks, object}
