@@ -12,18 +12,15 @@ pub returns-then-l-lt64 : goal.returns-then-l-lt64
 returns-then-l-lt64 c =
     rw c.in_mask.ensures
     (acquires_own (decode_all c.args.trace.now.records.bytes.now) (sound c.args.trace.now.records)
-    c.args.e
-    c.in-Acquire.ensures c.object-l.ensures.1 refl c.if-l-lt64.true c.requires.2)
+    c.args.e c.in-Acquire.ensures c.object-l.ensures.1 refl c.if-l-lt64.true c.requires.2)
 
 pub returns-else-l-lt64 : goal.returns-else-l-lt64
 returns-else-l-lt64 c =
     rw (le-ltb c.object-l.result 64 c.if-l-lt64.false)
     (acquires-task (decode_all c.args.trace.now.records.bytes.now) (sound c.args.trace.now.records)
-    c.args.e
-    c.in-Acquire.ensures c.object-l.ensures.1 c.if-l-lt64.false)
+    c.args.e c.in-Acquire.ensures c.object-l.ensures.1 c.if-l-lt64.false)
 
 pub returns-in_default : goal.returns-in_default
 returns-in_default c =
     acquires-not (decode_all c.args.trace.now.records.bytes.now) (sound c.args.trace.now.records)
-    c.args.e
-    c.operation.ensures (code_apart _ Acquire c.in_default.not-Acquire)
+    c.args.e c.operation.ensures (code_apart _ Acquire c.in_default.not-Acquire)
