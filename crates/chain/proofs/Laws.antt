@@ -1,13 +1,14 @@
 -- The chains of paths, and what an attempt at one event more decides. Assumes nothing.
 use Prim.Native.Nat.{ℕ, suc, ◌≤◌, ◌<◌}
 use mathlib.Core.Path.{◌≡◌, refl, sym, ap, ◌∙◌}
-use mathlib.Core.Logic.{◌⊎◌, inl, inr, ⊎_elim, ◌≢◌}
+use mathlib.Core.Logic.{⊎_elim, ◌≢◌}
 use mathlib.Core.Bool.{Bool, true, false, not, ◌&&◌, and-true}
 use mathlib.Core.List.{List, [], ◌∷◌, ◌++◌}
 use native.Mathlib.Omega.{arith}
 use lib.Dec.{T, T_not, not_T, leb}
 use Rattle.std.specs.Prelude.{Option, Some, None}
 use lib.ListN.{length, get_or}
+use borrow.Author.Tests.{eq-eqb, ne_eqb}
 use Rattle.model.specs.Lists.{all, has_bit}
 use Rattle.model.specs.Trace.{Trace, task, object, is_event}
 use Rattle.model.specs.Relations.{predecessor, held}
@@ -27,7 +28,7 @@ use Rattle.frontier.specs.declared.Frontier.{Frontier}
 use Rattle.chain.specs.declared.Grown.{Grown}
 use Rattle.chain.specs.declared.Trial.{Trial}
 use Rattle.chain.specs.declared.Trial.TheVariants.{Success, Failure, TaskFailure, Skipped}
-use Rattle.chain.specs.Attempted.{Reusable, Along, Attempted}
+use Rattle.chain.specs.Attempted.{Reusable, base_of, Along, Attempted}
 
 -- ---- what is decided of one event more
 
@@ -47,9 +48,9 @@ module _ (σ : Trace) (k : ℕ) (c : Chain) (e : ℕ) (old : Grown) where
   pub attempted_nowhere : (back : List ℕ) → Returning σ c.first (suc k) back
       → has_bit (get_or back k 0) (object σ e) ≡ false → Attempted σ k c e Skipped old old
   attempted_nowhere back z h = record {
-    deadlock = λ q. cc;
+    deadlock = λ f q. cc;
+    reached = λ f q. cc;
     grows = λ d. absurd (d refl);
-    own = λ d. absurd (d refl);
     unchanged = λ q. refl;
     dropped = λ d c' l. branch_nowhere σ k c' e (rw l.first unclosed)
         (z.nowhere k (omega arith) (add (signature σ) c' e) l.first (add_rooted σ c' e l.rooted) h);
@@ -62,26 +63,26 @@ module _ (σ : Trace) (k : ℕ) (c : Chain) (e : ℕ) (old : Grown) where
           (not_T (has_bit (held σ c.first) (object σ e)) (λ t.
           T_not (has_bit (get_or back k 0) (object σ e)) (rw h tt) (z.covers k (omega arith) (object σ e) t)))
 
-  module _ (new : Grown) (own : new.of ≡ Some (task σ e)) (inside : T (all (is_event σ) c.events))
-      (here : (1 ≤ e) × (e ≤ length σ))
-      (z : Before σ (c.events ++ e ∷ []) new.frontier.front new.frontier.latest) where
+  module _ (new : Grown) (base : Frontier) (kept : new.last ≡ Some (task σ e, base))
+      (inside : T (all (is_event σ) c.events)) (here : (1 ≤ e) × (e ≤ length σ))
+      (z : Before σ (c.events ++ e ∷ []) base.front base.latest) where
     -- The frontier does not have an event.
     abbrev apart : ℕ → Bool
-    apart f = not (leb f (get_or new.frontier.front (task σ f) 0))
+    apart f = not (leb f (get_or base.front (task σ f) 0))
 
     -- What it has decides.
     verdict : is_deadlock σ (c.events ++ e ∷ []) ≡ (all apart c.events && apart e)
     verdict =
-        before_deadlock σ (c.events ++ e ∷ []) new.frontier.front new.frontier.latest z
+        before_deadlock σ (c.events ++ e ∷ []) base.front base.latest z
         (path_more σ c.events e inside here.0 here.1)
         ∙ all_append apart c.events (e ∷ []) ∙ ap (λ (b : Bool). all apart c.events && b) (and-true (apart e))
 
     -- It has an event of the chain.
     pub attempted_met : all apart c.events ≡ false → Attempted σ k c e TaskFailure old new
     attempted_met h = record {
-      deadlock = λ q. cc;
-      grows = λ d. z;
-      own = λ d. own;
+      deadlock = λ f q. cc;
+      reached = λ f q. cc;
+      grows = λ d. (base, kept, z);
       unchanged = λ q. cc;
       dropped = λ d c' l. branch-not σ k c' e (rw (l.events, verdict, h));
       later = λ q c' l f b m s. branch-not σ k c' f (rw l.events (after f b m s));
@@ -97,67 +98,64 @@ module _ (σ : Trace) (k : ℕ) (c : Chain) (e : ℕ) (old : Grown) where
             (sym s) i
             (rw (
               z.members x event.0 event.1,
-              not-false (leb x (get_or new.frontier.front (task σ x) 0)) n,
+              not-false (leb x (get_or base.front (task σ x) 0)) n,
             ) tt)
 
     module _ (h : all apart c.events ≡ true) where
       -- It has the event itself.
-      pub attempted_itself : leb e (get_or new.frontier.front (task σ e) 0) ≡ true
-          → Attempted σ k c e Failure old new
+      pub attempted_itself : leb e (get_or base.front (task σ e) 0) ≡ true → Attempted σ k c e Failure old new
       attempted_itself y = record {
-        deadlock = λ q. cc;
-        grows = λ d. z;
-        own = λ d. own;
+        deadlock = λ f q. cc;
+        reached = λ f q. cc;
+        grows = λ d. (base, kept, z);
         unchanged = λ q. cc;
         dropped = λ d c' l. branch-not σ k c' e (rw (l.events, verdict, h, y));
         later = λ q. cc;
       }
 
       -- It has none of the events.
-      pub attempted_deadlock : leb e (get_or new.frontier.front (task σ e) 0) ≡ false
-          → Attempted σ k c e Success old new
+      pub attempted_deadlock : leb e (get_or base.front (task σ e) 0) ≡ false
+          → Attempted σ k c e (Success base) old new
       attempted_deadlock n = record {
-        deadlock = λ q. rw (verdict, h, n);
-        grows = λ d. z;
-        own = λ d. own;
+        deadlock = λ f q. rw (verdict, h, n);
+        reached = λ f q. let same : base ≡ f = cc in rw same at z;
+        grows = λ d. (base, kept, z);
         unchanged = λ q. cc;
-        dropped = λ d. absurd (d refl);
+        dropped = λ d. absurd (d base refl);
         later = λ q. cc;
       }
 
 -- ---- the frontier from which another is reached
 
--- A task is the one that is kept, or is not.
-kept? : (of : Option ℕ) (t : ℕ) → (of ≡ Some t) ⊎ (of ≢ Some t)
-kept? None t = inr (λ q. cc)
-kept? (Some u) t = ⊎_elim (λ (q : u ≡ t). inl (ap Some q)) (λ (d : u ≢ t). inr (λ q. d (cc))) (equal? u t)
+-- What holds of another frontier, and of that of the last attempt where this was at an event of the task.
+pub based : (P : Frontier → Type 0) (t : ℕ) (last : Option (ℕ × Frontier)) (f : Frontier) → P f
+    → ((g : Frontier) → last ≡ Some (t, g) → P g) → P (base_of t last f)
+based P t None f p q = p
+based P t (Some (u, g)) f p q =
+    ⊎_elim (λ (s : u ≡ t). rw (eq-eqb u t s) (q g (ap (λ (v : ℕ). Some (v, g)) s)))
+    (λ (d : u ≢ t). rw (ne_eqb u t d) p)
+    (equal? u t)
 
-module _ (σ : Trace) (e : ℕ) (frontier base : Frontier) (old : Grown)
-    (kept : old.of ≡ Some (task σ e) → base ≡ old.frontier)
-    (copied : old.of ≢ Some (task σ e) → base ≡ frontier) where
-  -- The one that is kept or copied, extended by the predecessor of e, is that of the predecessors of the
-  -- events and e.
-  pub grow_reaches : WellFormed σ → (front latest : List ℕ) → 1 ≤ e → e ≤ length σ
-      → Advanced σ (wanted σ base.front (predecessor σ e)) front latest → (p : List ℕ)
-      → T (all (is_event σ) p) → Before σ p frontier.front frontier.latest → Reusable σ p e old
+module _ (σ : Trace) (ok : WellFormed σ) (e : ℕ) (here : (1 ≤ e) × (e ≤ length σ)) (frontier : Frontier)
+    (old : Grown) where
+  -- From either the frontier of the predecessors of the events and e is reached, by the predecessor of e.
+  pub grow_reaches : (front latest : List ℕ)
+      → Advanced σ (wanted σ (base_of (task σ e) old.last frontier).front (predecessor σ e)) front latest
+      → (p : List ℕ) → T (all (is_event σ) p) → Before σ p frontier.front frontier.latest → Reusable σ p e old
       → Before σ (p ++ e ∷ []) front latest
-  grow_reaches ok front latest h l a p t b z = ⊎_elim again anew (kept? old.of (task σ e))
-    where
-      again : old.of ≡ Some (task σ e) → Before σ (p ++ e ∷ []) front latest
-      again q =
-          let (d, low, less, same, before) = z.again q in
-          before-again σ ok p old.frontier.front old.frontier.latest d e front latest before low less same
-          (events_inside σ (p ++ e ∷ []) (path_more σ p e t h l)) (rw (kept q) at a)
-
-      anew : old.of ≢ Some (task σ e) → Before σ (p ++ e ∷ []) front latest
-      anew d =
-          before-extend σ ok p frontier.front frontier.latest e front latest b h l (rw (copied d) at a)
+  grow_reaches front latest a p t b z =
+      based (λ g. Advanced σ (wanted σ g.front (predecessor σ e)) front latest → Before σ (p ++ e ∷ []) front latest)
+      (task σ e) old.last frontier
+      (before-extend σ ok p frontier.front frontier.latest e front latest b here.0 here.1)
+      (λ g q. let (d, low, less, same, before) = z.again g q in
+      before-again σ ok p g.front g.latest d e front latest before low less same
+      (events_inside σ (p ++ e ∷ []) (path_more σ p e t here.0 here.1))) a
 
 -- The frontier of the last attempt, if there was one, is that of the predecessors of the events p and of an
 -- event before e, whose task is the one noted.
 pub record Remembered (σ : Trace) (p : List ℕ) (e : ℕ) (grown : Grown) : Type 0 where
-  pub again : (t : ℕ) → grown.of ≡ Some t → (d : ℕ) × (1 ≤ d) × (d < e) × (task σ d ≡ t)
-      × Before σ (p ++ d ∷ []) grown.frontier.front grown.frontier.latest
+  pub again : (t : ℕ) (f : Frontier) → grown.last ≡ Some (t, f) → (d : ℕ) × (1 ≤ d) × (d < e)
+      × (task σ d ≡ t) × Before σ (p ++ d ∷ []) f.front f.latest
 
 -- It may then be extended to that of e.
 pub remembered : {σ : Trace} {p : List ℕ} {e : ℕ} {grown : Grown} → Remembered σ p e grown
@@ -165,15 +163,15 @@ pub remembered : {σ : Trace} {p : List ℕ} {e : ℕ} {grown : Grown} → Remem
 remembered {σ} {p} {e} z = record { again = z.again (task σ e) }
 
 -- No frontier is kept at first.
-pub remembered_none : {σ : Trace} {p : List ℕ} {e : ℕ} {grown : Grown} → grown.of ≡ None
+pub remembered_none : {σ : Trace} {p : List ℕ} {e : ℕ} {grown : Grown} → grown.last ≡ None
     → Remembered σ p e grown
-remembered_none n = record { again = λ t q. cc }
+remembered_none n = record { again = λ t f q. cc }
 
 -- One that is kept may be extended to that of any later event.
 pub remembered_later : {σ : Trace} {p : List ℕ} {d e : ℕ} {grown : Grown} → d ≤ e → Remembered σ p d grown
     → Remembered σ p e grown
 remembered_later h z = record {
-  again = λ t q. let (f, low, less, own, before) = z.again t q in (f, low, omega arith, own, before);
+  again = λ t f q. let (d, low, less, own, before) = z.again t f q in (d, low, omega arith, own, before);
 }
 
 -- After an attempt it is that of the event, unless this was skipped.
@@ -183,12 +181,14 @@ remembered_next {σ} {k} {c} {e} {r} {old} {new} h z a = cases r a
   where
     newest : {m : Trial} → Attempted σ k c e m old new → m ≢ Skipped → Remembered σ c.events (suc e) new
     newest a n = record {
-      again = λ t q. let same = a.own n in
-          let u : task σ e ≡ t = cc in (e, h, omega arith, u, a.grows n);
+      again = λ t f q. let (g, kept, before) = a.grows n in
+          let same : (task σ e, g) ≡ (t, f) = cc in
+          (e, h, omega arith, ap (λ (l : ℕ × Frontier). l.0) same,
+          rw (ap (λ (l : ℕ × Frontier). l.1) same) at before);
     }
 
     cases : (m : Trial) → Attempted σ k c e m old new → Remembered σ c.events (suc e) new
-    cases Success a = newest a (λ q. cc)
+    cases (Success f) a = newest a (λ q. cc)
     cases Failure a = newest a (λ q. cc)
     cases TaskFailure a = newest a (λ q. cc)
     cases Skipped a = rw (a.unchanged refl) (remembered_later (omega arith) z)

@@ -14,18 +14,18 @@ use Rattle.laws.proofs.Trace.{record-event}
 use Rattle.chain.specs.Attempted.{chain_of}
 use Rattle.chain.proofs.Laws.{attempted_nowhere, attempted_met, attempted_itself, attempted_deadlock}
 use Rattle.chain.proofs.Grown.attempt.Goals as goal
-use Rattle.chain.proofs.Grown.attempt.Goals.{After-grow, After-avoids}
+use Rattle.chain.proofs.Grown.attempt.Goals.{After-grow-grown, After-avoids}
 
 -- The frontier that has grown is that of the longer path.
-grown : (c : After-grow) → let a = c.args in
+grown : (c : After-grow-grown) → let a = c.args in
     Before (decode_all a.trace.now.records.bytes.now) ((chain_of a.path.now).events ++ a.e ∷ [])
-    c.grow.new.self.frontier.front c.grow.new.self.frontier.latest
-grown c = c.grow.ensures.before _ c.requires.1 c.requires.3 c.requires.4
+    c.grow-grown.result.front c.grow-grown.result.latest
+grown c = c.grow-grown.ensures.before _ c.requires.1 c.requires.3 c.requires.4
 
 -- It avoids the events of the path, or does not.
 avoided : (c : After-avoids) → let σ = decode_all c.args.trace.now.records.bytes.now in
     c.avoids.result
-    ≡ all (λ f. not (leb f (get_or c.grow.new.self.frontier.front (task σ f) 0)))
+    ≡ all (λ f. not (leb f (get_or c.grow-grown.result.front (task σ f) 0)))
     (chain_of c.args.path.now).events
 avoided c = rw c.events-events.ensures.0 at (c.avoids.ensures c.events-events.result.now (
   refl,
@@ -50,16 +50,16 @@ pub returns-then-not-avoids : goal.returns-then-not-avoids
 returns-then-not-avoids c =
     let a = c.args in
     attempted_met (decode_all a.trace.now.records.bytes.now) a.k (chain_of a.path.now) a.e a.self.now
-    c.grow.new.self c.grow.ensures.own c.requires.1 (record-event _ a.e (c.requires.5, c.requires.6))
-    (grown (goal.at.returns-then-not-avoids c).After-grow)
+    c.grow-grown.new.self c.grow-grown.result c.grow-grown.ensures.kept c.requires.1 (record-event _ a.e (c.requires.5, c.requires.6))
+    (grown (goal.at.returns-then-not-avoids c).After-grow-grown)
     (sym (avoided (goal.at.returns-then-not-avoids c).After-avoids) ∙ c.if-not-avoids.true)
 
 pub returns-then-contains : goal.returns-then-contains
 returns-then-contains c =
     let a = c.args in
     attempted_itself (decode_all a.trace.now.records.bytes.now) a.k (chain_of a.path.now) a.e a.self.now
-    c.grow.new.self c.grow.ensures.own c.requires.1 (record-event _ a.e (c.requires.5, c.requires.6))
-    (grown (goal.at.returns-then-contains c).After-grow)
+    c.grow-grown.new.self c.grow-grown.result c.grow-grown.ensures.kept c.requires.1 (record-event _ a.e (c.requires.5, c.requires.6))
+    (grown (goal.at.returns-then-contains c).After-grow-grown)
     (sym (avoided (goal.at.returns-then-contains c).After-avoids) ∙ c.if-not-avoids.false)
     (sym c.contains.ensures ∙ c.if-contains.true)
 
@@ -67,7 +67,7 @@ pub returns : goal.returns
 returns c =
     let a = c.args in
     attempted_deadlock (decode_all a.trace.now.records.bytes.now) a.k (chain_of a.path.now) a.e a.self.now
-    c.grow.new.self c.grow.ensures.own c.requires.1 (record-event _ a.e (c.requires.5, c.requires.6))
-    (grown (goal.at.returns c).After-grow)
+    c.grow-grown.new.self c.grow-grown.result c.grow-grown.ensures.kept c.requires.1 (record-event _ a.e (c.requires.5, c.requires.6))
+    (grown (goal.at.returns c).After-grow-grown)
     (sym (avoided (goal.at.returns c).After-avoids) ∙ c.if-not-avoids.false)
     (sym c.contains.ensures ∙ c.if-contains.false)
