@@ -10,7 +10,7 @@ ghost use Rattle.model.specs.Lists.{all};
 ghost use Rattle.model.specs.Trace.{task, is_event, is_acquire};
 ghost use Rattle.model.specs.Recording.{decode_all};
 ghost use Rattle.model.specs.Pattern.{largest_pattern};
-ghost use Rattle.laws.specs.Frontier.{Settled, Before};
+ghost use Rattle.laws.specs.Frontier.{Before};
 ghost use Rattle.laws.specs.Returning.{Returning};
 ghost use Rattle.frontier.specs.declared.Frontier.{Frontier};
 ghost use Rattle.chain.specs.Attempted.{chain_of, Reusable, base_of, Attempted, excluded_after};
@@ -59,26 +59,6 @@ impl Grown {
         }
     }
 
-    // The frontier of the closure of the predecessors of some events and e, which is then that of the last
-    // attempt.
-    fn grow(&mut self, trace: &Trace, frontier: &Frontier, e: usize) -> Frontier
-        requires { Settled (decode_all trace.now.records.bytes.now) frontier.now.front frontier.now.front
-            frontier.now.latest
-            × ((f : Frontier) → self.old.last ≡ Some (task (decode_all trace.now.records.bytes.now) e, f)
-            → Settled (decode_all trace.now.records.bytes.now) f.front f.front f.latest)
-            × (1 ≤ e) × (2 * e ≤ length trace.now.records.bytes.now) }
-        ensures kept { self.new.last ≡ Some (task (decode_all trace.now.records.bytes.now) e, result) }
-        ensures before { (p : List ℕ) → T (all (is_event (decode_all trace.now.records.bytes.now)) p)
-            → Before (decode_all trace.now.records.bytes.now) p frontier.now.front frontier.now.latest
-            → Reusable (decode_all trace.now.records.bytes.now) p e self.old
-            → Before (decode_all trace.now.records.bytes.now) (p ++ e ∷ []) result.front result.latest }
-    {
-        let mut grown = self.base(trace, frontier, e);
-        grown.extend(trace, e);
-        self.last = Some((trace.task(e), grown));
-        grown
-    }
-
     // Attempts the acquire e after the events of the path, with at most k more after it. It is then the last
     // attempt, unless e is skipped.
     pub fn attempt(
@@ -104,7 +84,9 @@ impl Grown {
         if !deadlock::lock_in_mask(trace, back[k], e) {
             return Trial::Skipped;
         }
-        let grown = self.grow(trace, frontier, e);
+        let mut grown = self.base(trace, frontier, e);
+        grown.extend(trace, e);
+        self.last = Some((trace.task(e), grown));
         let events = path.events();
         if !deadlock::avoids(trace, events.len(), |i| events[i], &grown) {
             return Trial::TaskFailure;
