@@ -16,7 +16,7 @@ use Rattle.model.specs.Pattern.{is_deadlock}
 use Rattle.laws.specs.Chain.{Chain, signature, add}
 use Rattle.laws.specs.Frontier.{wanted, Advanced, Before}
 use Rattle.laws.specs.Returning.{Returning, Rooted}
-use Rattle.laws.proofs.Tests.{is_false, and_i, not-false, equal?}
+use Rattle.laws.proofs.Tests.{is_false, and_i, not-false, decided, equal?}
 use Rattle.laws.proofs.Lists.{all_iff, all_append, all_fails}
 use Rattle.laws.proofs.Extensions.{branch-not, branch_nowhere}
 use Rattle.laws.proofs.Returning.{add_rooted, not_deadlock_later, before-again}
@@ -28,7 +28,7 @@ use Rattle.frontier.specs.declared.Frontier.{Frontier}
 use Rattle.chain.specs.declared.Grown.{Grown}
 use Rattle.chain.specs.declared.Trial.{Trial}
 use Rattle.chain.specs.declared.Trial.TheVariants.{Success, Failure, TaskFailure, Skipped}
-use Rattle.chain.specs.Attempted.{Reusable, base_of, Along, Attempted}
+use Rattle.chain.specs.Attempted.{Reusable, base_of, judged, Along, Attempted}
 
 -- ---- what is decided of one event more
 
@@ -78,7 +78,7 @@ module _ (σ : Trace) (k : ℕ) (c : Chain) (e : ℕ) (old : Grown) where
         ∙ all_append apart c.events (e ∷ []) ∙ ap (λ (b : Bool). all apart c.events && b) (and-true (apart e))
 
     -- It has an event of the chain.
-    pub attempted_met : all apart c.events ≡ false → Attempted σ k c e TaskFailure old new
+    attempted_met : all apart c.events ≡ false → Attempted σ k c e TaskFailure old new
     attempted_met h = record {
       deadlock = λ f q. cc;
       reached = λ f q. cc;
@@ -103,7 +103,7 @@ module _ (σ : Trace) (k : ℕ) (c : Chain) (e : ℕ) (old : Grown) where
 
     module _ (h : all apart c.events ≡ true) where
       -- It has the event itself.
-      pub attempted_itself : leb e (get_or base.front (task σ e) 0) ≡ true → Attempted σ k c e Failure old new
+      attempted_itself : leb e (get_or base.front (task σ e) 0) ≡ true → Attempted σ k c e Failure old new
       attempted_itself y = record {
         deadlock = λ f q. cc;
         reached = λ f q. cc;
@@ -114,7 +114,7 @@ module _ (σ : Trace) (k : ℕ) (c : Chain) (e : ℕ) (old : Grown) where
       }
 
       -- It has none of the events.
-      pub attempted_deadlock : leb e (get_or base.front (task σ e) 0) ≡ false
+      attempted_deadlock : leb e (get_or base.front (task σ e) 0) ≡ false
           → Attempted σ k c e (Success base) old new
       attempted_deadlock n = record {
         deadlock = λ f q. rw (verdict, h, n);
@@ -124,6 +124,13 @@ module _ (σ : Trace) (k : ℕ) (c : Chain) (e : ℕ) (old : Grown) where
         dropped = λ d. absurd (d base refl);
         later = λ q. cc;
       }
+
+    -- It has one of them, or none.
+    pub attempted_judged : Attempted σ k c e (judged σ c.events base e) old new
+    attempted_judged =
+        decided (all apart c.events)
+        (λ h. decided (leb e (get_or base.front (task σ e) 0)) (λ y. rw (h, y) (attempted_itself h y))
+        (λ n. rw (h, n) (attempted_deadlock h n))) (λ h. rw h (attempted_met h))
 
 -- ---- the frontier from which another is reached
 
@@ -182,9 +189,13 @@ remembered_next {σ} {k} {c} {e} {r} {old} {new} h z a = cases r a
     newest : {m : Trial} → Attempted σ k c e m old new → m ≢ Skipped → Remembered σ c.events (suc e) new
     newest a n = record {
       again = λ t f q. let (g, kept, before) = a.grows n in
-          let same : (task σ e, g) ≡ (t, f) = cc in
-          (e, h, omega arith, ap (λ (l : ℕ × Frontier). l.0) same,
-          rw (ap (λ (l : ℕ × Frontier). l.1) same) at before);
+          let same : (task σ e, g) ≡ (t, f) = cc in (
+            e,
+            h,
+            omega arith,
+            ap (λ (l : ℕ × Frontier). l.0) same,
+            rw (ap (λ (l : ℕ × Frontier). l.1) same) at before,
+          );
     }
 
     cases : (m : Trial) → Attempted σ k c e m old new → Remembered σ c.events (suc e) new

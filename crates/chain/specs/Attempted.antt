@@ -1,7 +1,8 @@
 -- Paths of the search, and one event more: what is decided of it.
 use Rattle.std.specs.Prelude.{ℕ, ◌^◌, ◌≤◌, ◌<◌, ◌≡◌, ◌≢◌, true, cond, List, [], ◌∷◌, ◌++◌, Option, Some, None, eqb}
-use Rattle.std.specs.Prelude.{length, take}
+use Rattle.std.specs.Prelude.{length, take, not, leb, get_or}
 use Rattle.std.specs.Int.Bits.{bit_or}
+use Rattle.model.specs.Lists.{all}
 use Rattle.model.specs.Trace.{Trace, task}
 use Rattle.model.specs.Pattern.{is_deadlock}
 use Rattle.laws.specs.Chain.{Chain}
@@ -14,7 +15,7 @@ use Rattle.deadlock.specs.Judged.{of_events}
 use Rattle.chain.specs.declared.path.Path.{Path}
 use Rattle.chain.specs.declared.Grown.{Grown}
 use Rattle.chain.specs.declared.Trial.{Trial}
-use Rattle.chain.specs.declared.Trial.TheVariants.{Success, TaskFailure, Skipped}
+use Rattle.chain.specs.declared.Trial.TheVariants.{Success, Failure, TaskFailure, Skipped}
 
 -- The chain of a path, with its events.
 abbrev pub chain_of : Path → Chain
@@ -30,6 +31,13 @@ pub record Reusable (σ : Trace) (p : List ℕ) (e : ℕ) (grown : Grown) : Type
 abbrev pub base_of : ℕ → Option (ℕ × Frontier) → Frontier → Frontier
 base_of t None f = f
 base_of t (Some (u, g)) f = cond (eqb u t) g f
+
+-- What the frontier of the closure of the predecessors of the events p and e decides of e: where it has one of
+-- p, a later event of the task has it as well.
+abbrev pub judged : Trace → List ℕ → Frontier → ℕ → Trial
+judged σ p f e =
+    cond (all (λ d. not (leb d (get_or f.front (task σ d) 0))) p)
+    (cond (leb e (get_or f.front (task σ e) 0)) Failure (Success f)) TaskFailure
 
 -- A chain c' has the events and the first event of the chain c, and its masks are rooted in that one.
 pub record Along (σ : Trace) (c c' : Chain) : Type 0 where

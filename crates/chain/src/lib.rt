@@ -13,7 +13,7 @@ ghost use Rattle.model.specs.Pattern.{largest_pattern};
 ghost use Rattle.laws.specs.Frontier.{Before};
 ghost use Rattle.laws.specs.Returning.{Returning};
 ghost use Rattle.frontier.specs.declared.Frontier.{Frontier};
-ghost use Rattle.chain.specs.Attempted.{chain_of, Reusable, base_of, Attempted, excluded_after};
+ghost use Rattle.chain.specs.Attempted.{chain_of, Reusable, base_of, judged, Attempted, excluded_after};
 
 use deadlock::Chain;
 use frontier::Frontier;
@@ -86,16 +86,26 @@ impl Grown {
         }
         let mut grown = self.base(trace, frontier, e);
         grown.extend(trace, e);
+        let met = judge(trace, path, &grown, e);
         self.last = Some((trace.task(e), grown));
-        let events = path.events();
-        if !deadlock::avoids(trace, events.len(), |i| events[i], &grown) {
-            return Trial::TaskFailure;
-        }
-        if grown.contains(trace.records.bytes, e) {
-            return Trial::Failure;
-        }
-        Trial::Success(grown)
+        met
     }
+}
+
+// What is found of event e after the events of the path, by the frontier of the closure of their predecessors.
+fn judge(trace: &Trace, path: &Path, grown: &Frontier, e: usize) -> Trial
+    requires { T (all (is_event (decode_all trace.now.records.bytes.now)) (chain_of path.now).events)
+        × (1 ≤ e) × (2 * e ≤ length trace.now.records.bytes.now) }
+    ensures { result ≡ judged (decode_all trace.now.records.bytes.now) (chain_of path.now).events grown.now e }
+{
+    let events = path.events();
+    if !deadlock::avoids(trace, events.len(), |i| events[i], grown) {
+        return Trial::TaskFailure;
+    }
+    if grown.contains(trace.records.bytes, e) {
+        return Trial::Failure;
+    }
+    Trial::Success(*grown)
 }
 
 // The chain whose later events are sought after event e was attempted: where the task of e fails, with this
