@@ -6,7 +6,7 @@ use mathlib.Core.Bool.{Bool, true, false, not, ◌&&◌, and-true}
 use mathlib.Core.List.{List, [], ◌∷◌, ◌++◌}
 use native.Mathlib.Omega.{arith}
 use lib.Dec.{T, T_not, not_T, leb}
-use Rattle.std.specs.Prelude.{Option, Some, None}
+use Rattle.std.specs.Prelude.{Option, Some, None, MatchOption}
 use lib.ListN.{length, get_or}
 use borrow.Author.Tests.{eq-eqb, ne_eqb}
 use Rattle.model.specs.Lists.{all, has_bit}
@@ -28,7 +28,7 @@ use Rattle.frontier.specs.declared.Frontier.{Frontier}
 use Rattle.chain.specs.declared.Grown.{Grown}
 use Rattle.chain.specs.declared.Trial.{Trial}
 use Rattle.chain.specs.declared.Trial.TheVariants.{Success, Failure, TaskFailure, Skipped}
-use Rattle.chain.specs.Attempted.{Reusable, base_of, judged, Along, Attempted}
+use Rattle.chain.specs.Attempted.{Reusable, kept_of, base_of, judged, Along, Attempted}
 
 -- ---- what is decided of one event more
 
@@ -141,6 +141,17 @@ based P t None f p q = p
 based P t (Some (u, g)) f p q =
     ⊎_elim (λ (s : u ≡ t). rw (eq-eqb u t s) (q g (ap (λ (v : ℕ). Some (v, g)) s)))
     (λ (d : u ≢ t). rw (ne_eqb u t d) p)
+    (equal? u t)
+
+-- What is inserted where nothing of the task is kept.
+pub inserted : (t : ℕ) (last : Option (ℕ × Frontier)) (f : Frontier) {l : ℕ × Frontier} {P : Type 0}
+    → MatchOption (kept_of t last) P (λ x. l ≡ x) → (P → l ≡ (t, f)) → l ≡ (t, base_of t last f)
+inserted t None f m p = p m
+inserted t (Some (u, g)) f {l} m p =
+    ⊎_elim
+    (λ (q : u ≡ t). let kept : l ≡ (u, g) = rw (eq-eqb u t q) at m in
+    rw (eq-eqb u t q) (kept ∙ ap (λ (v : ℕ). (v, g)) q))
+    (λ (d : u ≢ t). rw (ne_eqb u t d) (p (rw (ne_eqb u t d) at m)))
     (equal? u t)
 
 module _ (σ : Trace) (ok : WellFormed σ) (e : ℕ) (here : (1 ≤ e) × (e ≤ length σ)) (frontier : Frontier)

@@ -27,6 +27,11 @@ pub record Reusable (σ : Trace) (p : List ℕ) (e : ℕ) (grown : Grown) : Type
   pub again : (f : Frontier) → grown.last ≡ Some (task σ e, f) → (d : ℕ) × (1 ≤ d) × (d < e)
       × (task σ d ≡ task σ e) × Before σ (p ++ d ∷ []) f.front f.latest
 
+-- The last attempt, where it was at an event of task t.
+abbrev pub kept_of : ℕ → Option (ℕ × Frontier) → Option (ℕ × Frontier)
+kept_of t None = None
+kept_of t (Some (u, f)) = cond (eqb u t) (Some (u, f)) None
+
 -- The frontier of the last attempt, where this was at an event of task t, and else another one.
 abbrev pub base_of : ℕ → Option (ℕ × Frontier) → Frontier → Frontier
 base_of t None f = f

@@ -13,7 +13,7 @@ ghost use Rattle.model.specs.Pattern.{largest_pattern};
 ghost use Rattle.laws.specs.Frontier.{Before};
 ghost use Rattle.laws.specs.Returning.{Returning};
 ghost use Rattle.frontier.specs.declared.Frontier.{Frontier};
-ghost use Rattle.chain.specs.Attempted.{chain_of, Reusable, base_of, judged, Attempted, excluded_after};
+ghost use Rattle.chain.specs.Attempted.{chain_of, Reusable, kept_of, judged, Attempted, excluded_after};
 
 use deadlock::Chain;
 use frontier::Frontier;
@@ -46,16 +46,13 @@ impl Grown {
         Grown { last: None }
     }
 
-    // The frontier from which that of some events and e is reached: that of the events, or where the last
-    // attempt was at an event of the task of e that of this attempt.
-    fn base(&self, trace: &Trace, frontier: &Frontier, e: usize) -> Frontier
-        requires { (1 ≤ e) × (2 * e ≤ length trace.now.records.bytes.now) }
-        ensures { result ≡ base_of (task (decode_all trace.now.records.bytes.now) e) self.now.last frontier.now }
+    // Keeps the last attempt only where it was at an event of task t.
+    fn keep(&mut self, t: u8)
+        ensures { self.new.last ≡ kept_of t self.old.last }
     {
-        let own = trace.task(e);
         match self.last {
-            Some((t, grown)) if t == own => grown,
-            _ => *frontier,
+            Some((u, _)) if u == t => {}
+            _ => self.last = None,
         }
     }
 
@@ -84,11 +81,11 @@ impl Grown {
         if !deadlock::lock_in_mask(trace, back[k], e) {
             return Trial::Skipped;
         }
-        let mut grown = self.base(trace, frontier, e);
-        grown.extend(trace, e);
-        let met = judge(trace, path, &grown, e);
-        self.last = Some((trace.task(e), grown));
-        met
+        let own = trace.task(e);
+        self.keep(own);
+        let last = self.last.get_or_insert_with(|| (own, *frontier));
+        last.1.extend(trace, e);
+        judge(trace, path, &last.1, e)
     }
 }
 

@@ -1,34 +1,38 @@
 -- `chain::Grown::attempt` meets its contract: the laws say so of each outcome. Assumes nothing.
 use Prim.Native.Nat.{ℕ}
-use mathlib.Core.Path.{sym, ap, ◌∙◌}
+use mathlib.Core.Path.{sym, ap, ◌∙◌, ◌≡◌}
 use Rattle.std.specs.Prelude.{Some}
-use mathlib.Core.List.{[], ◌∷◌, ◌++◌}
+use borrow.Author.Rules.{rules}
 use Rattle.model.specs.Trace.{task}
 use Rattle.model.specs.Recording.{decode_all}
-use Rattle.laws.specs.Frontier.{Settled, Before}
+use Rattle.laws.specs.Frontier.{Settled}
 use Rattle.laws.proofs.Trace.{record-event}
 use Rattle.laws.proofs.Questions.{events_sound}
-use Rattle.chain.specs.Attempted.{chain_of}
-use Rattle.chain.proofs.Laws.{based, grow_reaches, attempted_nowhere, attempted_judged}
+use Rattle.frontier.specs.declared.Frontier.{Frontier}
+use Rattle.chain.specs.Attempted.{chain_of, base_of}
+use Rattle.chain.proofs.Laws.{inserted, based, grow_reaches, attempted_nowhere, attempted_judged}
 use Rattle.chain.proofs.Grown.attempt.Goals as goal
 use Rattle.chain.proofs.Grown.attempt.Goals.{After-extend}
 
--- The frontier that has grown is that of the longer path.
-grown : (c : After-extend) → let a = c.args in
-    Before (decode_all a.trace.now.records.bytes.now) ((chain_of a.path.now).events ++ a.e ∷ [])
-    c.extend.new.self.front c.extend.new.self.latest
-grown c =
-    let a = c.args in
-    let b = a.trace.now.records.bytes.now in
-    grow_reaches (decode_all b) (events_sound b a.trace.now.records.accepted) a.e
-    (record-event b a.e (c.requires.5, c.requires.6)) a.frontier.now a.self.now _ _
-    (rw (← c.base-grown.ensures) c.extend.ensures) _ c.requires.1 c.requires.3 c.requires.4
+-- What grows is the frontier of the last attempt, or that of the events.
+begun : (c : goal.After-extend) → c.get_or_insert_with-last.result.now
+    ≡ (
+      task (decode_all c.args.trace.now.records.bytes.now) c.args.e,
+      base_of (task (decode_all c.args.trace.now.records.bytes.now) c.args.e) c.args.self.now.last c.args.frontier.now,
+    )
+begun c =
+    rw (← c.task-own.ensures.1)
+    (inserted c.task-own.result c.args.self.now.last c.args.frontier.now
+    (rw c.keep.ensures at c.get_or_insert_with-last.ensures.cases) (λ p. search rules))
 
 pub extend-requires : goal.extend-requires
 extend-requires c =
     let a = c.args in
-    let σ = decode_all a.trace.now.records.bytes.now in (
-      rw c.base-grown.ensures
+    let σ = decode_all a.trace.now.records.bytes.now in
+    let t = c.task-own.result in
+    let start = inserted t a.self.now.last a.frontier.now
+    (rw c.keep.ensures at c.get_or_insert_with-last.ensures.cases) (λ p. search rules) in (
+      rw (start, c.task-own.ensures.1)
           (based (λ f. Settled σ f.front f.front f.latest) (task σ a.e) a.self.now.last a.frontier.now
           c.requires.3.settled
           (λ f q. let (d, low, less, same, before) = c.requires.4.again f q in before.settled)),
@@ -45,8 +49,11 @@ returns-then-not-lock_in_mask c =
 pub returns : goal.returns
 returns c =
     let a = c.args in
-    let σ = decode_all a.trace.now.records.bytes.now in
-    rw c.judge-met.ensures (attempted_judged σ a.k (chain_of a.path.now) a.e a.self.now _ c.extend.new.self
-    (ap (λ (t : ℕ). Some (t, c.extend.new.self)) c.task.ensures.1) c.requires.1
-    (record-event _ a.e (c.requires.5, c.requires.6))
-    (grown (goal.at.returns c).After-extend))
+    let b = a.trace.now.records.bytes.now in
+    let σ = decode_all b in
+    let begun = begun (goal.at.returns c).After-extend in
+    let event = record-event b a.e (c.requires.5, c.requires.6) in
+    rw c.judge.ensures (attempted_judged σ a.k (chain_of a.path.now) a.e a.self.now _ c.extend.new.self
+    (ap (λ (l : ℕ × Frontier). Some (l.0, c.extend.new.self)) begun) c.requires.1 event
+    (grow_reaches σ (events_sound b a.trace.now.records.accepted) a.e event a.frontier.now a.self.now _ _
+    (rw begun at c.extend.ensures) _ c.requires.1 c.requires.3 c.requires.4))
