@@ -1,7 +1,7 @@
 -- The chains of paths, and what an attempt at one event more decides. Assumes nothing.
 use Prim.Native.Nat.{ℕ, suc, ◌≤◌, ◌<◌}
 use mathlib.Core.Path.{◌≡◌, refl, sym, ap, ◌∙◌}
-use mathlib.Core.Logic.{⊎_elim, ◌≢◌}
+use mathlib.Core.Logic.{◌⊎◌, inl, inr, ⊎_elim, ◌≢◌}
 use mathlib.Core.Bool.{Bool, true, false, not, ◌&&◌, and-true}
 use mathlib.Core.List.{List, [], ◌∷◌, ◌++◌}
 use native.Mathlib.Omega.{arith}
@@ -28,7 +28,7 @@ use Rattle.frontier.specs.declared.Frontier.{Frontier}
 use Rattle.chain.specs.declared.Grown.{Grown}
 use Rattle.chain.specs.declared.Trial.{Trial}
 use Rattle.chain.specs.declared.Trial.TheVariants.{Success, Failure, TaskFailure, Skipped}
-use Rattle.chain.specs.Attempted.{Reusable, kept_of, base_of, judged, Along, Attempted}
+use Rattle.chain.specs.Attempted.{Reusable, kept_of, judged, Along, Attempted}
 
 -- ---- what is decided of one event more
 
@@ -134,40 +134,45 @@ module _ (σ : Trace) (k : ℕ) (c : Chain) (e : ℕ) (old : Grown) where
 
 -- ---- the frontier from which another is reached
 
--- What holds of another frontier, and of that of the last attempt where this was at an event of the task.
-pub based : (P : Frontier → Type 0) (t : ℕ) (last : Option (ℕ × Frontier)) (f : Frontier) → P f
-    → ((g : Frontier) → last ≡ Some (t, g) → P g) → P (base_of t last f)
-based P t None f p q = p
-based P t (Some (u, g)) f p q =
-    ⊎_elim (λ (s : u ≡ t). rw (eq-eqb u t s) (q g (ap (λ (v : ℕ). Some (v, g)) s)))
-    (λ (d : u ≢ t). rw (ne_eqb u t d) p)
-    (equal? u t)
+-- What is extended is of the task, and from the frontier of the events or from that of the last attempt.
+abbrev pub Begun : ℕ → Option (ℕ × Frontier) → Frontier → ℕ × Frontier → Type 0
+Begun own last frontier l = (l.0 ≡ own) × ((l.1 ≡ frontier) ⊎ (last ≡ Some (own, l.1)))
 
--- What is inserted where nothing of the task is kept.
-pub inserted : (t : ℕ) (last : Option (ℕ × Frontier)) (f : Frontier) {l : ℕ × Frontier} {P : Type 0}
-    → MatchOption (kept_of t last) P (λ x. l ≡ x) → (P → l ≡ (t, f)) → l ≡ (t, base_of t last f)
-inserted t None f m p = p m
-inserted t (Some (u, g)) f {l} m p =
-    ⊎_elim
-    (λ (q : u ≡ t). let kept : l ≡ (u, g) = rw (eq-eqb u t q) at m in
-    rw (eq-eqb u t q) (kept ∙ ap (λ (v : ℕ). (v, g)) q))
-    (λ (d : u ≢ t). rw (ne_eqb u t d) (p (rw (ne_eqb u t d) at m)))
-    (equal? u t)
+-- The last attempt is kept, or the frontier of the events is inserted.
+pub begun : (last : Option (ℕ × Frontier)) (frontier : Frontier) {t own : ℕ} {kept : Option (ℕ × Frontier)}
+    {l : ℕ × Frontier} {P : Type 0} → t ≡ own → kept ≡ kept_of t last → MatchOption kept P (λ x. l ≡ x)
+    → (P → l ≡ (t, frontier)) → Begun own last frontier l
+begun last frontier {t} {l = l} {P = P} same is m p = rw (← same) (cases last (rw is at m))
+  where
+    new : {old : Option (ℕ × Frontier)} → P → Begun t old frontier l
+    new x = let q = p x in (ap (λ (l : ℕ × Frontier). l.0) q, inl (ap (λ (l : ℕ × Frontier). l.1) q))
 
-module _ (σ : Trace) (ok : WellFormed σ) (e : ℕ) (here : (1 ≤ e) × (e ≤ length σ)) (frontier : Frontier)
-    (old : Grown) where
-  -- From either the frontier of the predecessors of the events and e is reached, by the predecessor of e.
-  pub grow_reaches : (front latest : List ℕ)
-      → Advanced σ (wanted σ (base_of (task σ e) old.last frontier).front (predecessor σ e)) front latest
+    cases : (old : Option (ℕ × Frontier)) → MatchOption (kept_of t old) P (λ x. l ≡ x) → Begun t old frontier l
+    cases None n = new n
+    cases (Some (u, g)) n =
+        ⊎_elim
+        (λ (q : u ≡ t). let k : l ≡ (u, g) = rw (eq-eqb u t q) at n in
+        rw (k, q) (refl, inr refl))
+        (λ (d : u ≢ t). new (rw (ne_eqb u t d) at n))
+        (equal? u t)
+
+module _ (σ : Trace) (ok : WellFormed σ) (e : ℕ) (here : (1 ≤ e) × (e ≤ length σ)) (frontier base : Frontier)
+    (old : Grown) (from : (base ≡ frontier) ⊎ (old.last ≡ Some (task σ e, base))) where
+  -- Extended by the predecessor of e, either is the frontier of the predecessors of the events and e.
+  pub grow_reaches : (front latest : List ℕ) → Advanced σ (wanted σ base.front (predecessor σ e)) front latest
       → (p : List ℕ) → T (all (is_event σ) p) → Before σ p frontier.front frontier.latest → Reusable σ p e old
       → Before σ (p ++ e ∷ []) front latest
-  grow_reaches front latest a p t b z =
-      based (λ g. Advanced σ (wanted σ g.front (predecessor σ e)) front latest → Before σ (p ++ e ∷ []) front latest)
-      (task σ e) old.last frontier
-      (before-extend σ ok p frontier.front frontier.latest e front latest b here.0 here.1)
-      (λ g q. let (d, low, less, same, before) = z.again g q in
-      before-again σ ok p g.front g.latest d e front latest before low less same
-      (events_inside σ (p ++ e ∷ []) (path_more σ p e t here.0 here.1))) a
+  grow_reaches front latest a p t b z = ⊎_elim anew again from
+    where
+      anew : base ≡ frontier → Before σ (p ++ e ∷ []) front latest
+      anew q =
+          before-extend σ ok p frontier.front frontier.latest e front latest b here.0 here.1 (rw q at a)
+
+      again : old.last ≡ Some (task σ e, base) → Before σ (p ++ e ∷ []) front latest
+      again q =
+          let (d, low, less, same, before) = z.again base q in
+          before-again σ ok p base.front base.latest d e front latest before low less same
+          (events_inside σ (p ++ e ∷ []) (path_more σ p e t here.0 here.1)) a
 
 -- The frontier of the last attempt, if there was one, is that of the predecessors of the events p and of an
 -- event before e, whose task is the one noted.

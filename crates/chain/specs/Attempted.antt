@@ -32,11 +32,6 @@ abbrev pub kept_of : ℕ → Option (ℕ × Frontier) → Option (ℕ × Frontie
 kept_of t None = None
 kept_of t (Some (u, f)) = cond (eqb u t) (Some (u, f)) None
 
--- The frontier of the last attempt, where this was at an event of task t, and else another one.
-abbrev pub base_of : ℕ → Option (ℕ × Frontier) → Frontier → Frontier
-base_of t None f = f
-base_of t (Some (u, g)) f = cond (eqb u t) g f
-
 -- What the frontier of the closure of the predecessors of the events p and e decides of e: where it has one of
 -- p, a later event of the task has it as well.
 abbrev pub judged : Trace → List ℕ → Frontier → ℕ → Trial

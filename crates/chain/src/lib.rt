@@ -23,7 +23,7 @@ use relations::Trace;
 // What is found of an acquire after the events of a path: with them it is a deadlock so far, and their
 // predecessors have a closure of this frontier; it leads nowhere; nor do the later events of its task; or it
 // leads nowhere, and the closure was not asked for.
-#[derive(Clone, Copy, Debug, PartialEq, Eq)]
+#[derive(Clone, Copy, Debug, PartialEq, Eq, Hash)]
 pub enum Trial {
     Success(Frontier),
     Failure,
@@ -83,9 +83,9 @@ impl Grown {
         }
         let own = trace.task(e);
         self.keep(own);
-        let last = self.last.get_or_insert_with(|| (own, *frontier));
-        last.1.extend(trace, e);
-        judge(trace, path, &last.1, e)
+        let (_, grown) = self.last.get_or_insert_with(|| (own, *frontier));
+        grown.extend(trace, e);
+        judge(trace, path, grown, e)
     }
 }
 

@@ -17,7 +17,7 @@ use relations::Trace;
 
 // A closed set, by the latest event that it has of each task, and of each lock its latest outer acquire
 // there.
-#[derive(Clone, Copy, Debug, PartialEq, Eq)]
+#[derive(Clone, Copy, Debug, PartialEq, Eq, Hash)]
 pub struct Frontier {
     pub front: [u16; 16],
     pub latest: [u16; 64],
