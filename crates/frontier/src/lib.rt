@@ -137,8 +137,9 @@ impl Frontier {
         let end = begin(trace, want, t, old);
         self.front[t] = f;
         while end < f {
+            let next = trace.predecessor(f as usize);
             visit(trace, want, &mut self.latest, f);
-            f = trace.predecessor(f as usize);
+            f = next;
         }
     }
 
