@@ -6,8 +6,9 @@ use mathlib.Core.Bool.{Bool, true, false, not, ◌&&◌, and-true}
 use mathlib.Core.List.{List, [], ◌∷◌, ◌++◌}
 use native.Mathlib.Omega.{arith}
 use lib.Dec.{T, T_not, not_T, leb}
-use Rattle.std.specs.Prelude.{Option, Some, None}
+use Rattle.std.specs.Prelude.{Option, Some, None, MatchOption}
 use lib.ListN.{length, get_or}
+use borrow.Author.Tests.{eq-eqb, ne_eqb}
 use Rattle.model.specs.Lists.{all, has_bit}
 use Rattle.model.specs.Trace.{Trace, task, object, is_event}
 use Rattle.model.specs.Relations.{predecessor, held}
@@ -15,7 +16,7 @@ use Rattle.model.specs.Pattern.{is_deadlock}
 use Rattle.laws.specs.Chain.{Chain, signature, add}
 use Rattle.laws.specs.Frontier.{wanted, Advanced, Before}
 use Rattle.laws.specs.Returning.{Returning, Rooted}
-use Rattle.laws.proofs.Tests.{is_false, and_i, not-false, equal?}
+use Rattle.laws.proofs.Tests.{is_false, and_i, not-false, decided, equal?}
 use Rattle.laws.proofs.Lists.{all_iff, all_append, all_fails}
 use Rattle.laws.proofs.Extensions.{branch-not, branch_nowhere}
 use Rattle.laws.proofs.Returning.{add_rooted, not_deadlock_later, before-again}
@@ -27,7 +28,7 @@ use Rattle.frontier.specs.declared.Frontier.{Frontier}
 use Rattle.chain.specs.declared.Grown.{Grown}
 use Rattle.chain.specs.declared.Trial.{Trial}
 use Rattle.chain.specs.declared.Trial.TheVariants.{Success, Failure, TaskFailure, Skipped}
-use Rattle.chain.specs.Attempted.{Reusable, Along, Attempted}
+use Rattle.chain.specs.Attempted.{Reusable, kept_of, judged, Along, Attempted}
 
 -- ---- what is decided of one event more
 
@@ -47,9 +48,9 @@ module _ (σ : Trace) (k : ℕ) (c : Chain) (e : ℕ) (old : Grown) where
   pub attempted_nowhere : (back : List ℕ) → Returning σ c.first (suc k) back
       → has_bit (get_or back k 0) (object σ e) ≡ false → Attempted σ k c e Skipped old old
   attempted_nowhere back z h = record {
-    deadlock = λ q. cc;
+    deadlock = λ f q. cc;
+    reached = λ f q. cc;
     grows = λ d. absurd (d refl);
-    own = λ d. absurd (d refl);
     unchanged = λ q. refl;
     dropped = λ d c' l. branch_nowhere σ k c' e (rw l.first unclosed)
         (z.nowhere k (omega arith) (add (signature σ) c' e) l.first (add_rooted σ c' e l.rooted) h);
@@ -62,26 +63,26 @@ module _ (σ : Trace) (k : ℕ) (c : Chain) (e : ℕ) (old : Grown) where
           (not_T (has_bit (held σ c.first) (object σ e)) (λ t.
           T_not (has_bit (get_or back k 0) (object σ e)) (rw h tt) (z.covers k (omega arith) (object σ e) t)))
 
-  module _ (new : Grown) (own : new.of ≡ Some (task σ e)) (inside : T (all (is_event σ) c.events))
-      (here : (1 ≤ e) × (e ≤ length σ))
-      (z : Before σ (c.events ++ e ∷ []) new.frontier.front new.frontier.latest) where
+  module _ (new : Grown) (base : Frontier) (kept : new.last ≡ Some (task σ e, base))
+      (inside : T (all (is_event σ) c.events)) (here : (1 ≤ e) × (e ≤ length σ))
+      (z : Before σ (c.events ++ e ∷ []) base.front base.latest) where
     -- The frontier does not have an event.
     abbrev apart : ℕ → Bool
-    apart f = not (leb f (get_or new.frontier.front (task σ f) 0))
+    apart f = not (leb f (get_or base.front (task σ f) 0))
 
     -- What it has decides.
     verdict : is_deadlock σ (c.events ++ e ∷ []) ≡ (all apart c.events && apart e)
     verdict =
-        before_deadlock σ (c.events ++ e ∷ []) new.frontier.front new.frontier.latest z
+        before_deadlock σ (c.events ++ e ∷ []) base.front base.latest z
         (path_more σ c.events e inside here.0 here.1)
         ∙ all_append apart c.events (e ∷ []) ∙ ap (λ (b : Bool). all apart c.events && b) (and-true (apart e))
 
     -- It has an event of the chain.
-    pub attempted_met : all apart c.events ≡ false → Attempted σ k c e TaskFailure old new
+    attempted_met : all apart c.events ≡ false → Attempted σ k c e TaskFailure old new
     attempted_met h = record {
-      deadlock = λ q. cc;
-      grows = λ d. z;
-      own = λ d. own;
+      deadlock = λ f q. cc;
+      reached = λ f q. cc;
+      grows = λ d. (base, kept, z);
       unchanged = λ q. cc;
       dropped = λ d c' l. branch-not σ k c' e (rw (l.events, verdict, h));
       later = λ q c' l f b m s. branch-not σ k c' f (rw l.events (after f b m s));
@@ -97,67 +98,87 @@ module _ (σ : Trace) (k : ℕ) (c : Chain) (e : ℕ) (old : Grown) where
             (sym s) i
             (rw (
               z.members x event.0 event.1,
-              not-false (leb x (get_or new.frontier.front (task σ x) 0)) n,
+              not-false (leb x (get_or base.front (task σ x) 0)) n,
             ) tt)
 
     module _ (h : all apart c.events ≡ true) where
       -- It has the event itself.
-      pub attempted_itself : leb e (get_or new.frontier.front (task σ e) 0) ≡ true
-          → Attempted σ k c e Failure old new
+      attempted_itself : leb e (get_or base.front (task σ e) 0) ≡ true → Attempted σ k c e Failure old new
       attempted_itself y = record {
-        deadlock = λ q. cc;
-        grows = λ d. z;
-        own = λ d. own;
+        deadlock = λ f q. cc;
+        reached = λ f q. cc;
+        grows = λ d. (base, kept, z);
         unchanged = λ q. cc;
         dropped = λ d c' l. branch-not σ k c' e (rw (l.events, verdict, h, y));
         later = λ q. cc;
       }
 
       -- It has none of the events.
-      pub attempted_deadlock : leb e (get_or new.frontier.front (task σ e) 0) ≡ false
-          → Attempted σ k c e Success old new
+      attempted_deadlock : leb e (get_or base.front (task σ e) 0) ≡ false
+          → Attempted σ k c e (Success base) old new
       attempted_deadlock n = record {
-        deadlock = λ q. rw (verdict, h, n);
-        grows = λ d. z;
-        own = λ d. own;
+        deadlock = λ f q. rw (verdict, h, n);
+        reached = λ f q. let same : base ≡ f = cc in rw same at z;
+        grows = λ d. (base, kept, z);
         unchanged = λ q. cc;
-        dropped = λ d. absurd (d refl);
+        dropped = λ d. absurd (d base refl);
         later = λ q. cc;
       }
 
+    -- It has one of them, or none.
+    pub attempted_judged : Attempted σ k c e (judged σ c.events base e) old new
+    attempted_judged =
+        decided (all apart c.events)
+        (λ h. decided (leb e (get_or base.front (task σ e) 0)) (λ y. rw (h, y) (attempted_itself h y))
+        (λ n. rw (h, n) (attempted_deadlock h n))) (λ h. rw h (attempted_met h))
+
 -- ---- the frontier from which another is reached
 
--- A task is the one that is kept, or is not.
-kept? : (of : Option ℕ) (t : ℕ) → (of ≡ Some t) ⊎ (of ≢ Some t)
-kept? None t = inr (λ q. cc)
-kept? (Some u) t = ⊎_elim (λ (q : u ≡ t). inl (ap Some q)) (λ (d : u ≢ t). inr (λ q. d (cc))) (equal? u t)
+-- What is extended is of the task, and from the frontier of the events or from that of the last attempt.
+abbrev pub Begun : ℕ → Option (ℕ × Frontier) → Frontier → ℕ × Frontier → Type 0
+Begun own last frontier l = (l.0 ≡ own) × ((l.1 ≡ frontier) ⊎ (last ≡ Some (own, l.1)))
 
-module _ (σ : Trace) (e : ℕ) (frontier base : Frontier) (old : Grown)
-    (kept : old.of ≡ Some (task σ e) → base ≡ old.frontier)
-    (copied : old.of ≢ Some (task σ e) → base ≡ frontier) where
-  -- The one that is kept or copied, extended by the predecessor of e, is that of the predecessors of the
-  -- events and e.
-  pub grow_reaches : WellFormed σ → (front latest : List ℕ) → 1 ≤ e → e ≤ length σ
-      → Advanced σ (wanted σ base.front (predecessor σ e)) front latest → (p : List ℕ)
-      → T (all (is_event σ) p) → Before σ p frontier.front frontier.latest → Reusable σ p e old
+-- The last attempt is kept, or the frontier of the events is inserted.
+pub begun : (last : Option (ℕ × Frontier)) (frontier : Frontier) {t own : ℕ} {kept : Option (ℕ × Frontier)}
+    {l : ℕ × Frontier} {P : Type 0} → t ≡ own → kept ≡ kept_of t last → MatchOption kept P (λ x. l ≡ x)
+    → (P → l ≡ (t, frontier)) → Begun own last frontier l
+begun last frontier {t} {l = l} {P = P} same is m p = rw (← same) (cases last (rw is at m))
+  where
+    new : {old : Option (ℕ × Frontier)} → P → Begun t old frontier l
+    new x = let q = p x in (ap (λ (l : ℕ × Frontier). l.0) q, inl (ap (λ (l : ℕ × Frontier). l.1) q))
+
+    cases : (old : Option (ℕ × Frontier)) → MatchOption (kept_of t old) P (λ x. l ≡ x) → Begun t old frontier l
+    cases None n = new n
+    cases (Some (u, g)) n =
+        ⊎_elim
+        (λ (q : u ≡ t). let k : l ≡ (u, g) = rw (eq-eqb u t q) at n in
+        rw (k, q) (refl, inr refl))
+        (λ (d : u ≢ t). new (rw (ne_eqb u t d) at n))
+        (equal? u t)
+
+module _ (σ : Trace) (ok : WellFormed σ) (e : ℕ) (here : (1 ≤ e) × (e ≤ length σ)) (frontier base : Frontier)
+    (old : Grown) (from : (base ≡ frontier) ⊎ (old.last ≡ Some (task σ e, base))) where
+  -- Extended by the predecessor of e, either is the frontier of the predecessors of the events and e.
+  pub grow_reaches : (front latest : List ℕ) → Advanced σ (wanted σ base.front (predecessor σ e)) front latest
+      → (p : List ℕ) → T (all (is_event σ) p) → Before σ p frontier.front frontier.latest → Reusable σ p e old
       → Before σ (p ++ e ∷ []) front latest
-  grow_reaches ok front latest h l a p t b z = ⊎_elim again anew (kept? old.of (task σ e))
+  grow_reaches front latest a p t b z = ⊎_elim anew again from
     where
-      again : old.of ≡ Some (task σ e) → Before σ (p ++ e ∷ []) front latest
-      again q =
-          let (d, low, less, same, before) = z.again q in
-          before-again σ ok p old.frontier.front old.frontier.latest d e front latest before low less same
-          (events_inside σ (p ++ e ∷ []) (path_more σ p e t h l)) (rw (kept q) at a)
+      anew : base ≡ frontier → Before σ (p ++ e ∷ []) front latest
+      anew q =
+          before-extend σ ok p frontier.front frontier.latest e front latest b here.0 here.1 (rw q at a)
 
-      anew : old.of ≢ Some (task σ e) → Before σ (p ++ e ∷ []) front latest
-      anew d =
-          before-extend σ ok p frontier.front frontier.latest e front latest b h l (rw (copied d) at a)
+      again : old.last ≡ Some (task σ e, base) → Before σ (p ++ e ∷ []) front latest
+      again q =
+          let (d, low, less, same, before) = z.again base q in
+          before-again σ ok p base.front base.latest d e front latest before low less same
+          (events_inside σ (p ++ e ∷ []) (path_more σ p e t here.0 here.1)) a
 
 -- The frontier of the last attempt, if there was one, is that of the predecessors of the events p and of an
 -- event before e, whose task is the one noted.
 pub record Remembered (σ : Trace) (p : List ℕ) (e : ℕ) (grown : Grown) : Type 0 where
-  pub again : (t : ℕ) → grown.of ≡ Some t → (d : ℕ) × (1 ≤ d) × (d < e) × (task σ d ≡ t)
-      × Before σ (p ++ d ∷ []) grown.frontier.front grown.frontier.latest
+  pub again : (t : ℕ) (f : Frontier) → grown.last ≡ Some (t, f) → (d : ℕ) × (1 ≤ d) × (d < e)
+      × (task σ d ≡ t) × Before σ (p ++ d ∷ []) f.front f.latest
 
 -- It may then be extended to that of e.
 pub remembered : {σ : Trace} {p : List ℕ} {e : ℕ} {grown : Grown} → Remembered σ p e grown
@@ -165,15 +186,15 @@ pub remembered : {σ : Trace} {p : List ℕ} {e : ℕ} {grown : Grown} → Remem
 remembered {σ} {p} {e} z = record { again = z.again (task σ e) }
 
 -- No frontier is kept at first.
-pub remembered_none : {σ : Trace} {p : List ℕ} {e : ℕ} {grown : Grown} → grown.of ≡ None
+pub remembered_none : {σ : Trace} {p : List ℕ} {e : ℕ} {grown : Grown} → grown.last ≡ None
     → Remembered σ p e grown
-remembered_none n = record { again = λ t q. cc }
+remembered_none n = record { again = λ t f q. cc }
 
 -- One that is kept may be extended to that of any later event.
 pub remembered_later : {σ : Trace} {p : List ℕ} {d e : ℕ} {grown : Grown} → d ≤ e → Remembered σ p d grown
     → Remembered σ p e grown
 remembered_later h z = record {
-  again = λ t q. let (f, low, less, own, before) = z.again t q in (f, low, omega arith, own, before);
+  again = λ t f q. let (d, low, less, own, before) = z.again t f q in (d, low, omega arith, own, before);
 }
 
 -- After an attempt it is that of the event, unless this was skipped.
@@ -183,12 +204,18 @@ remembered_next {σ} {k} {c} {e} {r} {old} {new} h z a = cases r a
   where
     newest : {m : Trial} → Attempted σ k c e m old new → m ≢ Skipped → Remembered σ c.events (suc e) new
     newest a n = record {
-      again = λ t q. let same = a.own n in
-          let u : task σ e ≡ t = cc in (e, h, omega arith, u, a.grows n);
+      again = λ t f q. let (g, kept, before) = a.grows n in
+          let same : (task σ e, g) ≡ (t, f) = cc in (
+            e,
+            h,
+            omega arith,
+            ap (λ (l : ℕ × Frontier). l.0) same,
+            rw (ap (λ (l : ℕ × Frontier). l.1) same) at before,
+          );
     }
 
     cases : (m : Trial) → Attempted σ k c e m old new → Remembered σ c.events (suc e) new
-    cases Success a = newest a (λ q. cc)
+    cases (Success f) a = newest a (λ q. cc)
     cases Failure a = newest a (λ q. cc)
     cases TaskFailure a = newest a (λ q. cc)
     cases Skipped a = rw (a.unchanged refl) (remembered_later (omega arith) z)

@@ -10,83 +10,54 @@ ghost use Rattle.model.specs.Lists.{all};
 ghost use Rattle.model.specs.Trace.{task, is_event, is_acquire};
 ghost use Rattle.model.specs.Recording.{decode_all};
 ghost use Rattle.model.specs.Pattern.{largest_pattern};
-ghost use Rattle.laws.specs.Frontier.{Settled, Before};
+ghost use Rattle.laws.specs.Frontier.{Before};
 ghost use Rattle.laws.specs.Returning.{Returning};
-ghost use Rattle.chain.specs.Attempted.{chain_of, Reusable, Attempted, excluded_after};
+ghost use Rattle.frontier.specs.declared.Frontier.{Frontier};
+ghost use Rattle.chain.specs.Attempted.{chain_of, Reusable, kept_of, judged, Attempted, excluded_after};
 
 use deadlock::Chain;
 use frontier::Frontier;
 pub use path::Path;
 use relations::Trace;
 
-// What is found of an acquire after the events of a path: with them it is a deadlock so far; it leads
-// nowhere; nor do the later events of its task; or it leads nowhere, and its closure was not asked for.
+// What is found of an acquire after the events of a path: with them it is a deadlock so far, and their
+// predecessors have a closure of this frontier; it leads nowhere; nor do the later events of its task; or it
+// leads nowhere, and the closure was not asked for.
 #[derive(Clone, Copy, Debug, PartialEq, Eq, Hash)]
 pub enum Trial {
-    Success,
+    Success(Frontier),
     Failure,
     TaskFailure,
     Skipped,
 }
 
-// The frontier of the last attempt at one event more of a path, with the task of this event, if there was
-// one.
+// The last attempt at one event more of a path that asked for a closure, if there was one: the task of this
+// event, and the frontier.
 #[derive(Drop)]
 pub struct Grown {
-    pub frontier: Frontier,
-    of: Option<u8>,
+    last: Option<(u8, Frontier)>,
 }
 
 impl Grown {
     // No frontier is kept before the first attempt.
     pub fn new() -> Grown
-        ensures { result.of ≡ None }
+        ensures { result.last ≡ None }
     {
-        Grown {
-            frontier: Frontier::empty(),
-            of: None,
+        Grown { last: None }
+    }
+
+    // Keeps the last attempt only where it was at an event of task t.
+    fn keep(&mut self, t: u8)
+        ensures { self.new.last ≡ kept_of t self.old.last }
+    {
+        match self.last {
+            Some((u, _)) if u == t => {}
+            _ => self.last = None,
         }
     }
 
-    // Starts from the frontier of some events, unless the last attempt was at an event of the task of e.
-    fn renew(&mut self, trace: &Trace, frontier: &Frontier, e: usize)
-        requires { (1 ≤ e) × (2 * e ≤ length trace.now.records.bytes.now) }
-        ensures own { self.new.of ≡ Some (task (decode_all trace.now.records.bytes.now) e) }
-        ensures kept { self.old.of ≡ Some (task (decode_all trace.now.records.bytes.now) e)
-            → self.new.frontier ≡ self.old.frontier }
-        ensures copied { self.old.of ≢ Some (task (decode_all trace.now.records.bytes.now) e)
-            → self.new.frontier ≡ frontier.now }
-    {
-        let own = Some(trace.task(e));
-        if self.of == own {
-            return;
-        }
-        self.frontier = *frontier;
-        self.of = own;
-    }
-
-    // Grows the frontier to that of the predecessors of some events and e: from that of the events, or where
-    // the last attempt was at an event of the task of e from that of the events and this one.
-    fn grow(&mut self, trace: &Trace, frontier: &Frontier, e: usize)
-        requires { Settled (decode_all trace.now.records.bytes.now) frontier.now.front frontier.now.front
-            frontier.now.latest
-            × (self.old.of ≡ Some (task (decode_all trace.now.records.bytes.now) e)
-            → Settled (decode_all trace.now.records.bytes.now) self.old.frontier.front self.old.frontier.front
-            self.old.frontier.latest)
-            × (1 ≤ e) × (2 * e ≤ length trace.now.records.bytes.now) }
-        ensures own { self.new.of ≡ Some (task (decode_all trace.now.records.bytes.now) e) }
-        ensures before { (p : List ℕ) → T (all (is_event (decode_all trace.now.records.bytes.now)) p)
-            → Before (decode_all trace.now.records.bytes.now) p frontier.now.front frontier.now.latest
-            → Reusable (decode_all trace.now.records.bytes.now) p e self.old
-            → Before (decode_all trace.now.records.bytes.now) (p ++ e ∷ []) self.new.frontier.front
-            self.new.frontier.latest }
-    {
-        self.renew(trace, frontier, e);
-        self.frontier.extend(trace, e);
-    }
-
-    // Attempts the acquire e after the events of the path, with at most k more after it. The frontier becomes
-    // that of the closure of their predecessors, unless e is skipped: then it is as before.
+    // Attempts the acquire e after the events of the path, with at most k more after it. It is then the last
+    // attempt, unless e is skipped.
     pub fn attempt(
         &mut self,
         trace: &Trace,
@@ -110,16 +81,28 @@ impl Grown {
         if !deadlock::lock_in_mask(trace, back[k], e) {
             return Trial::Skipped;
         }
-        self.grow(trace, frontier, e);
-        let events = path.events();
-        if !deadlock::avoids(trace, events.len(), |i| events[i], &self.frontier) {
-            return Trial::TaskFailure;
-        }
-        if self.frontier.contains(trace.records.bytes, e) {
-            return Trial::Failure;
-        }
-        Trial::Success
+        let own = trace.task(e);
+        self.keep(own);
+        let (_, grown) = self.last.get_or_insert_with(|| (own, *frontier));
+        grown.extend(trace, e);
+        judge(trace, path, grown, e)
     }
+}
+
+// What is found of event e after the events of the path, by the frontier of the closure of their predecessors.
+fn judge(trace: &Trace, path: &Path, grown: &Frontier, e: usize) -> Trial
+    requires { T (all (is_event (decode_all trace.now.records.bytes.now)) (chain_of path.now).events)
+        × (1 ≤ e) × (2 * e ≤ length trace.now.records.bytes.now) }
+    ensures { result ≡ judged (decode_all trace.now.records.bytes.now) (chain_of path.now).events grown.now e }
+{
+    let events = path.events();
+    if !deadlock::avoids(trace, events.len(), |i| events[i], grown) {
+        return Trial::TaskFailure;
+    }
+    if grown.contains(trace.records.bytes, e) {
+        return Trial::Failure;
+    }
+    Trial::Success(*grown)
 }
 
 // The chain whose later events are sought after event e was attempted: where the task of e fails, with this

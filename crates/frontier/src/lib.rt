@@ -17,7 +17,7 @@ use relations::Trace;
 
 // A closed set, by the latest event that it has of each task, and of each lock its latest outer acquire
 // there.
-#[derive(Clone, Copy, Debug, PartialEq, Eq)]
+#[derive(Clone, Copy, Debug, PartialEq, Eq, Hash)]
 pub struct Frontier {
     pub front: [u16; 16],
     pub latest: [u16; 64],
@@ -137,8 +137,9 @@ impl Frontier {
         let end = begin(trace, want, t, old);
         self.front[t] = f;
         while end < f {
+            let next = trace.predecessor(f as usize);
             visit(trace, want, &mut self.latest, f);
-            f = trace.predecessor(f as usize);
+            f = next;
         }
     }
 

@@ -23,6 +23,7 @@ use Rattle.laws.proofs.Firsts.{each_first, each_last}
 use Rattle.laws.proofs.Extensions.{extensions-suc, branch_unfit, branch_deadlock}
 use Rattle.deadlock.specs.declared.Chain.{Chain as Kept}
 use Rattle.deadlock.specs.Judged.{of_events}
+use Rattle.frontier.specs.declared.Frontier.{Frontier}
 use Rattle.chain.specs.declared.Grown.{Grown}
 use Rattle.chain.specs.declared.Trial.{Trial}
 use Rattle.chain.specs.declared.Trial.TheVariants.{Success, Failure, TaskFailure, Skipped}
@@ -96,15 +97,15 @@ module _ {σ : Trace} {k : ℕ} {c : Chain} {x : Kept} {at : ℕ} {out₀ out : 
 
     module _ {met : Trial} {old new : Grown} (t : Attempted σ k c e met old new) where
       -- Attempted with success, it adds what begins with the longer chain,
-      pub scanning_adds : met ≡ Success → (c' : Chain) → c' ≡ add (signature σ) c e → {out' : List ℕ}
+      pub scanning_adds : {reached : Frontier} → met ≡ Success reached → (c' : Chain) → c' ≡ add (signature σ) c e → {out' : List ℕ}
           → {r : Result Found Full} → Adds (completions σ k c') out out' f r
           → Adds (branch σ k c e) out out' f r
-      scanning_adds s c' is {out'} {r} =
+      scanning_adds {reached} s c' is {out'} {r} =
           subst (λ (ps : List (List ℕ)). Adds ps out out' f r)
-          (ap (completions σ k) is ∙ sym (branch_deadlock σ k c e scanning-fits (t.deadlock s)))
+          (ap (completions σ k) is ∙ sym (branch_deadlock σ k c e scanning-fits (t.deadlock reached s)))
 
       -- and otherwise nothing.
-      pub scanning_drops : met ≢ Success → Rooted σ c → Adds (branch σ k c e) out out f (Ok f)
+      pub scanning_drops : ((f : Frontier) → met ≢ Success f) → Rooted σ c → Adds (branch σ k c e) out out f (Ok f)
       scanning_drops n rooted = rw (t.dropped n c (along_itself rooted)) (adds_none out f)
 
     module _ {out' : List ℕ} {r : Result Found Full} (a : Adds (branch σ k c e) out out' f r) where
@@ -140,7 +141,7 @@ module _ {σ : Trace} {k : ℕ} {c : Chain} {x : Kept} {at : ℕ} {out₀ out : 
       same = rw q (elim met as (λ m. ((excluded_after σ x m e).last ≡ c.last)
           × ((excluded_after σ x m e).guards ≡ c.guards)) [
             | TaskFailure ↦ z.same
-            | Success ↦ z.same
+            | Success _ ↦ z.same
             | Failure ↦ z.same
             | Skipped ↦ z.same
           ]);
@@ -157,14 +158,14 @@ module _ {σ : Trace} {k : ℕ} {c : Chain} {x : Kept} {at : ℕ} {out₀ out : 
         wider : Covers x.tasks x'.tasks
         wider l s = rw q (elim met as (λ m. T (has_bit (excluded_after σ x m e).tasks l)) [
           | TaskFailure ↦ rw (has_bit-set x.tasks (task σ e) l) (or_l (has_bit x.tasks l) _ s)
-          | Success ↦ s
+          | Success _ ↦ s
           | Failure ↦ s
           | Skipped ↦ s
         ])
 
         rest : (m : Trial) → Attempted σ k c e m old new → x' ≡ excluded_after σ x m e → (g : ℕ) → e < g
             → g ≤ length σ → passes σ x' g ≡ false → branch σ k c g ≡ []
-        rest Success t q g h i m = more g h i (rw q at m)
+        rest (Success _) t q g h i m = more g h i (rw q at m)
         rest Failure t q g h i m = more g h i (rw q at m)
         rest Skipped t q g h i m = more g h i (rw q at m)
         rest TaskFailure t q g h i m =

@@ -80,15 +80,8 @@ fn extend(
         chain = chain::exclude(trace.records.bytes, &chain, met, e);
         at = e;
         match met {
-            Trial::Success => {
-                taken = descend(
-                    search,
-                    &path.with(trace, e),
-                    left - 1,
-                    &grown.frontier,
-                    out,
-                    taken,
-                )?;
+            Trial::Success(reached) => {
+                taken = descend(search, &path.with(trace, e), left - 1, &reached, out, taken)?;
             }
             _ => {}
         }

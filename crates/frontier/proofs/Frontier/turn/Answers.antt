@@ -1,5 +1,5 @@
--- `frontier::Frontier::turn` meets its contract: the frontier is on its way from the wanted event to the old
--- one, or to the task's start. Assumes nothing.
+-- `frontier::turn` meets its contract: the frontier is on its way from the wanted event to the old one, or to
+-- the task's start. Assumes nothing.
 use Prim.Native.Nat.{◌≤◌}
 use mathlib.Core.Path.{refl}
 use native.Mathlib.Omega.{arith}
@@ -43,22 +43,22 @@ visit-requires c =
     let e = event (goal.at.visit-requires c).In-loop-f in
     (e.0, omega (arith, e, decode_all-length c.args.trace.now.records.bytes.now))
 
-pub predecessor-f-requires : goal.predecessor-f-requires
-predecessor-f-requires c =
-    let e = event (goal.at.predecessor-f-requires c).In-loop-f in
+pub predecessor-next-requires : goal.predecessor-next-requires
+predecessor-next-requires c =
+    let e = event (goal.at.predecessor-next-requires c).In-loop-f in
     (e.0, omega (arith, e, decode_all-length c.args.trace.now.records.bytes.now))
 
 pub loop-f-smaller : goal.loop-f-smaller
 loop-f-smaller c =
     let low = predecessor_below (decode_all c.args.trace.now.records.bytes.now) c.loop-f.f in
-    omega (arith, c.predecessor-f.ensures, low, event (goal.at.loop-f-smaller c).In-loop-f)
+    omega (arith, c.predecessor-next.ensures, low, event (goal.at.loop-f-smaller c).In-loop-f)
 
 pub loop-f-preserved : goal.loop-f-preserved
 loop-f-preserved c =
     let v = c.visit.ensures in
     let k = c.loop-f.invariant in
     record {
-      turning = rw (c.predecessor-f.ensures, v.wanted, v.latest)
+      turning = rw (c.predecessor-next.ensures, v.wanted, v.latest)
           (turning-step _ (sound c.args.trace.now.records) _ _ _ _ _ _
           _ _
           k.turning c.loop-f-test.true);

@@ -81,8 +81,8 @@ extend-descend-requires t c =
     let (one, low, high) = scanning_event z d y in (
       omega (arith, c.decreases, c.requires.1),
       open_with _ c.requires.0 c.requires.1 c.in-Some.e one high (scanning_acquire z d y) c.with.result
-          c.attempt-met.new.self.frontier c.with.ensures.len c.with.ensures.chain
-          (c.attempt-met.ensures.grows (λ q. cc (c.in-Success.is))),
+          c.in-Success.reached c.with.ensures.len c.with.ensures.chain
+          (c.attempt-met.ensures.reached c.in-Success.reached c.in-Success.is),
     )
 
 pub extend-returns-in_err-taken-in-Success : goal.extend-returns-in_err-taken-in-Success
