@@ -1,4 +1,4 @@
--- `frontier::turn` meets its contract: the frontier is on its way from the wanted event to the old one, or to
+-- `frontier::Frontier::turn` meets its contract: the frontier is on its way from the wanted event to the old one, or to
 -- the task's start. Assumes nothing.
 use Prim.Native.Nat.{◌≤◌}
 use mathlib.Core.Path.{refl}
