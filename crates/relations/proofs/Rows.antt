@@ -4,7 +4,6 @@ use Prim.Native.Nat.{ℕ, suc, ◌+◌, ◌≤◌, ◌<◌}
 use mathlib.Core.Path.{◌≡◌, refl, sym, ◌∙◌}
 use mathlib.Core.Logic.{⊎_elim, ◌≢◌}
 use mathlib.Core.Bool.{false, cond, ◌&&◌}
-use mathlib.Core.List.{List}
 use native.Mathlib.Numerals.{add-one}
 use native.Mathlib.Omega.{arith}
 use lib.Count.{ones}
@@ -28,7 +27,8 @@ use Rattle.laws.proofs.Awaited.{writer_off}
 use Rattle.order.proofs.Laws.{start_is}
 use Rattle.relations.specs.declared.Row.{Row}
 use Rattle.relations.specs.declared.Walk.{Walk}
-use Rattle.relations.specs.Tables.{blank, row, IsRow, Tabled, Noted, Walked}
+use Rattle.relations.specs.declared.Tables.{Tables}
+use Rattle.relations.specs.Tables.{row, with_row, IsRow, Tabled, Noted, Walked}
 
 -- The row with another match.
 abbrev pub with_match : Row → ℕ → Row
@@ -44,27 +44,55 @@ rematched z q = record {
   matching_is = q;
 }
 
-module _ {σ : Trace} {e : ℕ} {rows : List Row} (z : Noted σ e rows) (l : e < length rows) {r : Row}
-    (n : IsRow σ (e + 1) e r) where
+-- The arrays of the tables have an entry for each event.
+pub record Long (tables : Tables) : Type 0 where
+  pub held_long : length tables.held ≡ 4096
+  pub predecessors_long : length tables.predecessors ≡ 4096
+  pub awaited_long : length tables.awaited ≡ 4096
+  pub matches_long : length tables.matches ≡ 4096
+
+module _ {tables : Tables} (z : Long tables) where
+  row_same : {e : ℕ} → e < 4096 → (r : Row) → row (with_row tables e r) e ≡ r
+  row_same {e} l r =
+      rw (
+        get_or-set_same tables.held e r.held 0 (omega (arith, z.held_long)),
+        get_or-set_same tables.predecessors e r.predecessor 0 (omega (arith, z.predecessors_long)),
+        get_or-set_same tables.awaited e r.awaited 0 (omega (arith, z.awaited_long)),
+        get_or-set_same tables.matches e r.matching 0 (omega (arith, z.matches_long)),
+      ) refl
+
+row_other : (tables : Tables) (e f : ℕ) (r : Row) → f ≢ e → row (with_row tables e r) f ≡ row tables f
+row_other tables e f r d =
+    rw (
+      get_or-set_other tables.held e f r.held 0 d,
+      get_or-set_other tables.predecessors e f r.predecessor 0 d,
+      get_or-set_other tables.awaited e f r.awaited 0 d,
+      get_or-set_other tables.matches e f r.matching 0 d,
+    ) refl
+
+module _ {σ : Trace} {e : ℕ} {tables : Tables} (z : Noted σ e tables) (long : Long tables) (l : e < 4096)
+    {r : Row} (n : IsRow σ (e + 1) e r) where
   -- Once event e has its row, the row of an event whose match it leaves is right.
   row_left : (f : ℕ) → 1 ≤ f → f < e + 1 → (f < e → marked_before σ (suc e) f ≡ marked_before σ e f)
-      → IsRow σ (e + 1) f (row (set rows e r) f)
+      → IsRow σ (e + 1) f (row (with_row tables e r) f)
   row_left f h k left =
       ⊎_elim
-      (λ (q : f ≡ e). rw (q, get_or-set_same rows e r blank l) n)
+      (λ (q : f ≡ e). rw (q, row_same long l r) n)
       (λ (m : f ≢ e).
       let old = z.at f h (omega arith) in
-      rw (get_or-set_other rows e f r blank m)
+      rw (row_other tables e f r m)
       (rematched old (old.matching_is ∙ rw (add-one e) (sym (left (omega arith))))))
       (equal? f e)
 
   -- An event that is no outer release leaves all of them.
-  pub row_noted : is_release σ e ≡ false → Noted σ (e + 1) (set rows e r)
+  pub row_noted : is_release σ e ≡ false → Noted σ (e + 1) (with_row tables e r)
   row_noted d = record { at = λ f h k. row_left f h k (λ b. marked_keep σ e f b d) }
 
   -- An outer release is also the match of its acquire.
   pub release_noted : WellFormed σ → (1 ≤ e) × (e ≤ length σ) → T (is_release σ e)
-      → Noted σ (e + 1) (set (set rows e r) r.matching (with_match (row (set rows e r) r.matching) e))
+      → Noted σ (e + 1) (record (with_row tables e r) {
+        matches = set (set tables.matches e r.matching) r.matching e;
+      })
   release_noted ok i t = record { at = λ f h k. ⊎_elim (acquire f) (other f h k) (equal? f r.matching) }
     where
       latest : r.matching ≡ last_before e (λ f. is_acquire σ f && eqb (object σ e) (object σ f))
@@ -75,29 +103,31 @@ module _ {σ : Trace} {e : ℕ} {rows : List Row} (z : Noted σ e rows) (l : e <
       opened : (r.matching ≢ 0) × (r.matching < e) × T (is_acquire σ r.matching)
       opened = rw latest (opened_acquire σ ok e i t)
 
-      closed : Row
-      closed = with_match (row (set rows e r) r.matching) e
+      closed : Tables
+      closed = record (with_row tables e r) { matches = set (set tables.matches e r.matching) r.matching e }
 
-      acquire : (f : ℕ) → f ≡ r.matching → IsRow σ (e + 1) f (row (set (set rows e r) r.matching closed) f)
+      acquire : (f : ℕ) → f ≡ r.matching → IsRow σ (e + 1) f (row closed f)
       acquire f q =
           let old = z.at r.matching (omega (arith, opened)) (omega (arith, opened)) in
+          let apart : r.matching ≢ e = omega (arith, opened) in
           rw (
             q,
-            get_or-set_same (set rows e r) r.matching closed blank
-                (omega (arith, opened, length-set rows e r)),
-            get_or-set_other rows e r.matching r blank (omega (arith, opened)),
+            get_or-set_other tables.held e r.matching r.held 0 apart,
+            get_or-set_other tables.predecessors e r.matching r.predecessor 0 apart,
+            get_or-set_other tables.awaited e r.matching r.awaited 0 apart,
+            get_or-set_same (set tables.matches e r.matching) r.matching e 0
+                (omega (arith, opened, length-set tables.matches e r.matching, long.matches_long)),
           )
           (rematched old (rw (add-one e) (sym (marked_opened σ ok e i t latest))))
 
-      other : (f : ℕ) → 1 ≤ f → f < e + 1 → f ≢ r.matching
-          → IsRow σ (e + 1) f (row (set (set rows e r) r.matching closed) f)
+      other : (f : ℕ) → 1 ≤ f → f < e + 1 → f ≢ r.matching → IsRow σ (e + 1) f (row closed f)
       other f h k x =
-          rw (get_or-set_other (set rows e r) r.matching f closed blank x)
+          rw (get_or-set_other (set tables.matches e r.matching) r.matching f e 0 x)
           (row_left f h k (λ b. marked_other σ ok e i t latest f b x))
 
 -- After the last event each row has the relations of its event.
-pub noted_end : {σ : Trace} {e : ℕ} {rows : List Row} {walk : Walk} → Noted σ e rows → Walked σ e walk
-    → e ≡ suc (length σ) → Tabled σ (record { rows = rows; tasks = walk.latest.tasks })
+pub noted_end : {σ : Trace} {e : ℕ} {tables : Tables} {walk : Walk} → Noted σ e tables → Walked σ e walk
+    → e ≡ suc (length σ) → Tabled σ (record tables { tasks = walk.latest.tasks })
 noted_end {σ} {walk = walk} z w last = record {
   held_at = λ f i. (z.at f i.0 (omega (arith, i, last))).held_is;
   predecessor_at = λ f i. (z.at f i.0 (omega (arith, i, last))).predecessor_is;

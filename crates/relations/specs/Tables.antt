@@ -1,7 +1,7 @@
 -- The tables of a recording: for each event 1 to n what the definitions say of it, but that a row has what
 -- the event awaits, a read its writer and a join what it waits for, and as the match of an inner event, a
 -- start or a join its own number.
-use Rattle.std.specs.Prelude.{ℕ, ◌≤◌, ◌<◌, ◌≡◌, List, length, get_or}
+use Rattle.std.specs.Prelude.{ℕ, ◌≤◌, ◌<◌, ◌≡◌, length, get_or, set}
 use Rattle.model.specs.Trace.{Trace, tasks}
 use Rattle.model.specs.Relations.{predecessor, held}
 use Rattle.laws.specs.Order.{awaited, start_in}
@@ -13,21 +13,32 @@ use Rattle.relations.specs.declared.Row.{Row}
 use Rattle.relations.specs.declared.Tables.{Tables}
 use Rattle.relations.specs.declared.Walk.{Walk}
 
--- A row of zeros.
-abbrev pub blank : Row
-blank = record { held = 0; predecessor = 0; awaited = 0; matching = 0 }
+-- The row of event e, at its index.
+abbrev pub row : Tables → ℕ → Row
+row tables e = record {
+  held = get_or tables.held e 0;
+  predecessor = get_or tables.predecessors e 0;
+  awaited = get_or tables.awaited e 0;
+  matching = get_or tables.matches e 0;
+}
 
--- The row at the index of event e.
-abbrev pub row : List Row → ℕ → Row
-row rows e = get_or rows e blank
+-- The tables with another row of event e.
+abbrev pub with_row : Tables → ℕ → Row → Tables
+with_row tables e r = record {
+  held = set tables.held e r.held;
+  predecessors = set tables.predecessors e r.predecessor;
+  awaited = set tables.awaited e r.awaited;
+  matches = set tables.matches e r.matching;
+  tasks = tables.tasks;
+}
 
 -- Each row has the relations of its event, its match with a mark, and for each task there is its start.
 pub record Tabled (σ : Trace) (tables : Tables) : Type 0 where
-  pub held_at : (e : ℕ) → (1 ≤ e) × (e ≤ length σ) → (row tables.rows e).held ≡ held σ e
-  pub predecessor_at : (e : ℕ) → (1 ≤ e) × (e ≤ length σ) → (row tables.rows e).predecessor ≡ predecessor σ e
+  pub held_at : (e : ℕ) → (1 ≤ e) × (e ≤ length σ) → (row tables e).held ≡ held σ e
+  pub predecessor_at : (e : ℕ) → (1 ≤ e) × (e ≤ length σ) → (row tables e).predecessor ≡ predecessor σ e
   pub start_at : (t : ℕ) → t < tasks → (of_task tables.tasks t).start ≡ start_in σ t
-  pub awaited_at : (e : ℕ) → (1 ≤ e) × (e ≤ length σ) → (row tables.rows e).awaited ≡ awaited σ e
-  pub matching_at : (e : ℕ) → (1 ≤ e) × (e ≤ length σ) → (row tables.rows e).matching ≡ marked σ e
+  pub awaited_at : (e : ℕ) → (1 ≤ e) × (e ≤ length σ) → (row tables e).awaited ≡ awaited σ e
+  pub matching_at : (e : ℕ) → (1 ≤ e) × (e ≤ length σ) → (row tables e).matching ≡ marked σ e
 
 -- The row is that of event f, but that its match is as far as the events before e show it.
 pub record IsRow (σ : Trace) (e f : ℕ) (r : Row) : Type 0 where
@@ -37,8 +48,8 @@ pub record IsRow (σ : Trace) (e f : ℕ) (r : Row) : Type 0 where
   pub matching_is : r.matching ≡ marked_before σ e f
 
 -- Right before event e is noted each earlier event has its row,
-pub record Noted (σ : Trace) (e : ℕ) (rows : List Row) : Type 0 where
-  pub at : (f : ℕ) → 1 ≤ f → f < e → IsRow σ e f (row rows f)
+pub record Noted (σ : Trace) (e : ℕ) (tables : Tables) : Type 0 where
+  pub at : (f : ℕ) → 1 ≤ f → f < e → IsRow σ e f (row tables f)
 
 -- and the walk has what noting event e asks for.
 pub record Walked (σ : Trace) (e : ℕ) (walk : Walk) : Type 0 where

@@ -15,7 +15,7 @@ ghost use Rattle.laws.specs.EventKinds.{marked};
 ghost use Rattle.laws.specs.Order.{awaited, start_in};
 ghost use Rattle.recording.specs.Asked.{code};
 ghost use Rattle.sections.specs.Kinds.{IsKind};
-ghost use Rattle.relations.specs.Tables.{row, IsRow, Tabled, Noted, Walked};
+ghost use Rattle.relations.specs.Tables.{with_row, IsRow, Tabled, Noted, Walked};
 
 use model::{Question, Refusal, Related};
 use order::{Latest, TaskEvents};
@@ -30,10 +30,13 @@ pub struct Trace<'a> {
     ghost tabled: { Tabled (decode_all records.bytes.now) tables.now },
 }
 
-// For each event its row, and for each task its start, beside its latest event.
+// For each event what its row has, and for each task its start, beside its latest event.
 #[derive(Drop)]
 pub struct Tables {
-    rows: [Row; 4096],
+    held: [u64; 4096],
+    predecessors: [u16; 4096],
+    awaited: [u16; 4096],
+    matches: [u16; 4096],
     tasks: [TaskEvents; 16],
 }
 
@@ -71,20 +74,20 @@ impl Walk {
     }
 
     // Notes event e in its row; an outer release is then also the match of its acquire.
-    fn note(&mut self, records: &Records, e: usize, rows: &mut [Row; 4096])
+    fn note(&mut self, records: &Records, e: usize, tables: &mut Tables)
         requires { (1 ≤ e) × (2 * e ≤ length records.now.bytes.now)
             × Walked (decode_all records.now.bytes.now) e self.old
-            × Noted (decode_all records.now.bytes.now) e rows.old }
+            × Noted (decode_all records.now.bytes.now) e tables.old }
         ensures { Walked (decode_all records.now.bytes.now) (e + 1) self.new
-            × Noted (decode_all records.now.bytes.now) (e + 1) rows.new }
+            × Noted (decode_all records.now.bytes.now) (e + 1) tables.new }
     {
         let kind = self.sections.kind_of(records, e);
         let row = self.row_of(records, e, kind);
         self.sections.note(records, e, kind);
         self.latest.note(records, e);
-        rows[e] = row;
+        tables.put(e, &row);
         match kind {
-            Kind::Release => rows[row.matching as usize].matching = e as u16,
+            Kind::Release => tables.matches[row.matching as usize] = e as u16,
             _ => {}
         }
     }
@@ -94,14 +97,23 @@ impl Tables {
     // Room for the tables of a recording, nothing noted yet.
     pub fn blank() -> Tables {
         Tables {
-            rows: [Row {
-                held: 0,
-                predecessor: 0,
-                awaited: 0,
-                matching: 0,
-            }; 4096],
+            held: [0; 4096],
+            predecessors: [0; 4096],
+            awaited: [0; 4096],
+            matches: [0; 4096],
             tasks: [TaskEvents::NONE; 16],
         }
+    }
+
+    // Puts the row of event e.
+    fn put(&mut self, e: usize, row: &Row)
+        requires { e < table_length }
+        ensures { self.new ≡ with_row self.old e row.now }
+    {
+        self.held[e] = row.held;
+        self.predecessors[e] = row.predecessor;
+        self.awaited[e] = row.awaited;
+        self.matches[e] = row.matching;
     }
 
     // Fills the tables of accepted records: one pass, each event noted in turn.
@@ -113,7 +125,7 @@ impl Tables {
             latest: Latest::new(),
         };
         for e in 1..records.len() + 1 {
-            walk.note(records, e, &mut self.rows);
+            walk.note(records, e, self);
         }
         self.tasks = walk.latest.tasks;
     }
@@ -178,7 +190,7 @@ impl<'a> Trace<'a> {
         requires { (1 ≤ e) × (2 * e ≤ length self.now.records.bytes.now) }
         ensures { result ≡ held (decode_all self.now.records.bytes.now) e }
     {
-        self.tables.rows[e].held
+        self.tables.held[e]
     }
 
     // The predecessor of event e, or 0.
@@ -186,7 +198,7 @@ impl<'a> Trace<'a> {
         requires { (1 ≤ e) × (2 * e ≤ length self.now.records.bytes.now) }
         ensures { result ≡ predecessor (decode_all self.now.records.bytes.now) e }
     {
-        self.tables.rows[e].predecessor
+        self.tables.predecessors[e]
     }
 
     // The start of task t, or 0.
@@ -202,7 +214,7 @@ impl<'a> Trace<'a> {
         requires { (1 ≤ e) × (2 * e ≤ length self.now.records.bytes.now) }
         ensures { result ≡ awaited (decode_all self.now.records.bytes.now) e }
     {
-        self.tables.rows[e].awaited
+        self.tables.awaited[e]
     }
 
     // The match of event e, or 0; of an inner event, a start or a join its own number.
@@ -210,7 +222,7 @@ impl<'a> Trace<'a> {
         requires { (1 ≤ e) × (2 * e ≤ length self.now.records.bytes.now) }
         ensures { result ≡ marked (decode_all self.now.records.bytes.now) e }
     {
-        self.tables.rows[e].matching
+        self.tables.matches[e]
     }
 
     // The relations of event e.

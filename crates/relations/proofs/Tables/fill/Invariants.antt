@@ -6,4 +6,4 @@ use Rattle.relations.proofs.Tables.fill.Given as goal
 
 abbrev pub invariant-loop-e : goal.invariant-loop-e
 invariant-loop-e l = Walked (decode_all l.records.bytes.now) l.e l.walk × Noted
-    (decode_all l.records.bytes.now) l.e l.self.rows
+    (decode_all l.records.bytes.now) l.e l.self
