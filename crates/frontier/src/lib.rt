@@ -78,11 +78,15 @@ impl Advance {
     {
         let l = trace.object(f as usize) as usize;
         let top = self.latest[l];
-        raise(&mut self.latest, l, f);
+        if f <= top {
+            self.want_match(trace, f);
+            return;
+        }
+        self.latest[l] = f;
         if top == 0 {
             return;
         }
-        self.want_match(trace, top.min(f));
+        self.want_match(trace, top);
     }
 
     // Visits event f, which wants what it awaits, or is visited as an outer acquire. A start or an inner
