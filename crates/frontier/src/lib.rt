@@ -23,6 +23,14 @@ pub struct Frontier {
     pub latest: [u16; 64],
 }
 
+// A frontier on its way to a closed set, and of each task the event that is wanted.
+#[derive(Drop)]
+struct Advance {
+    front: [u16; 16],
+    latest: [u16; 64],
+    want: [u16; 16],
+}
+
 // Raises entry i of a table of events, one for each task or each lock, to event e, where e is later.
 fn raise(events: &mut [u16], i: usize, e: u16)
     requires { i < length events.old }
@@ -31,86 +39,132 @@ fn raise(events: &mut [u16], i: usize, e: u16)
     events[i] = events[i].max(e);
 }
 
-// Wants, in the task of event e, its match, or of one that does not count its own number.
-fn want_match(trace: &Trace, want: &mut [u16; 16], e: u16)
-    requires { (1 ≤ e) × (2 * e ≤ length trace.now.records.bytes.now) }
-    ensures { want.new ≡ raised want.old (task (decode_all trace.now.records.bytes.now) e)
-        (marked (decode_all trace.now.records.bytes.now) e) }
-{
-    let at = e as usize;
-    raise(want, trace.task(at) as usize, trace.matching(at));
-}
-
-// Wants event x of whatever task, unless it is 0.
-fn want_event(trace: &Trace, want: &mut [u16; 16], x: u16)
-    requires { 2 * x ≤ length trace.now.records.bytes.now }
-    ensures { want.new ≡ wanted (decode_all trace.now.records.bytes.now) want.old x }
-{
-    if x == 0 {
-        return;
+impl Advance {
+    // Wants, in the task of event e, its match, or of one that does not count its own number.
+    fn want_match(&mut self, trace: &Trace, e: u16)
+        requires { (1 ≤ e) × (2 * e ≤ length trace.now.records.bytes.now) }
+        ensures { self.new ≡ record self.old {
+          want = raised self.old.want (task (decode_all trace.now.records.bytes.now) e)
+              (marked (decode_all trace.now.records.bytes.now) e);
+        } }
+    {
+        let at = e as usize;
+        raise(&mut self.want, trace.task(at) as usize, trace.matching(at));
     }
-    raise(want, trace.task(x as usize) as usize, x);
-}
 
-// Visits the outer acquire f: notes it where it is later than the latest one of its lock that was visited
-// before, and wants the match of the earlier of the two, where there are two.
-fn visit_acquire(trace: &Trace, want: &mut [u16; 16], latest: &mut [u16; 64], f: u16)
-    requires { (1 ≤ f) × (2 * f ≤ length trace.now.records.bytes.now)
-        × (object (decode_all trace.now.records.bytes.now) f < locks) }
-    ensures wanted { want.new ≡ wanted_earlier (decode_all trace.now.records.bytes.now)
-        want.old (get_or latest.old (object (decode_all trace.now.records.bytes.now) f) 0) f }
-    ensures latest { latest.new ≡ raised latest.old (object (decode_all trace.now.records.bytes.now) f) f }
-{
-    let l = trace.object(f as usize) as usize;
-    let top = latest[l];
-    raise(latest, l, f);
-    if top == 0 {
-        return;
-    }
-    want_match(trace, want, top.min(f));
-}
-
-// Visits event f, which wants what it awaits, or is visited as an outer acquire. A start or an inner acquire,
-// which is marked by its own number, changes nothing.
-fn visit(trace: &Trace, want: &mut [u16; 16], latest: &mut [u16; 64], f: u16)
-    requires { (1 ≤ f) × (2 * f ≤ length trace.now.records.bytes.now) }
-    ensures wanted { want.new ≡ wanted_with (decode_all trace.now.records.bytes.now) want.old latest.old f }
-    ensures latest { latest.new ≡ latest_with (decode_all trace.now.records.bytes.now) latest.old f }
-{
-    match trace.operation(f as usize) {
-        Op::Acquire => {
-            if trace.matching(f as usize) != f {
-                visit_acquire(trace, want, latest, f);
-            }
+    // Wants event x of whatever task, unless it is 0.
+    fn want_event(&mut self, trace: &Trace, x: u16)
+        requires { 2 * x ≤ length trace.now.records.bytes.now }
+        ensures { self.new ≡ record self.old {
+          want = wanted (decode_all trace.now.records.bytes.now) self.old.want x;
+        } }
+    {
+        if x == 0 {
+            return;
         }
-        _ => want_event(trace, want, trace.awaited(f as usize)),
+        raise(&mut self.want, trace.task(x as usize) as usize, x);
     }
-}
 
-// Where the walk of task t ends, whose frontier was at event `old`: there, or for a task without events in
-// the set at its start, which is then wanted.
-fn begin(trace: &Trace, want: &mut [u16; 16], t: usize, old: u16) -> u16
-    requires { t < tasks }
-    ensures { (result ≡ cond (eqb old 0) (start_in (decode_all trace.now.records.bytes.now) t) old)
-        × (want.new ≡ cond (eqb old 0) (wanted (decode_all trace.now.records.bytes.now) want.old
-        (start_in (decode_all trace.now.records.bytes.now) t)) want.old) }
-{
-    if old != 0 {
-        return old;
+    // Visits the outer acquire f: notes it where it is later than the latest one of its lock that was visited
+    // before, and wants the match of the earlier of the two, where there are two.
+    fn visit_acquire(&mut self, trace: &Trace, f: u16)
+        requires { (1 ≤ f) × (2 * f ≤ length trace.now.records.bytes.now)
+            × (object (decode_all trace.now.records.bytes.now) f < locks) }
+        ensures { self.new ≡ record self.old {
+          latest = raised self.old.latest (object (decode_all trace.now.records.bytes.now) f) f;
+          want = wanted_earlier (decode_all trace.now.records.bytes.now) self.old.want
+              (get_or self.old.latest (object (decode_all trace.now.records.bytes.now) f) 0) f;
+        } }
+    {
+        let l = trace.object(f as usize) as usize;
+        let top = self.latest[l];
+        if f <= top {
+            self.want_match(trace, f);
+            return;
+        }
+        self.latest[l] = f;
+        if top == 0 {
+            return;
+        }
+        self.want_match(trace, top);
     }
-    let start = trace.start(t);
-    want_event(trace, want, start);
-    start
-}
 
-// The first task whose wanted event the frontier has not reached, if any.
-fn unreached(front: &[u16; 16], want: &[u16; 16]) -> Option<usize>
-    ensures { Unreached front.now want.now result }
-{
-    front
-        .iter()
-        .zip(want.iter())
-        .position(|(at, wanted)| at < wanted)
+    // Visits event f, which wants what it awaits, or is visited as an outer acquire. A start or an inner
+    // acquire, which is marked by its own number, changes nothing.
+    fn visit(&mut self, trace: &Trace, f: u16)
+        requires { (1 ≤ f) × (2 * f ≤ length trace.now.records.bytes.now) }
+        ensures { self.new ≡ record self.old {
+          latest = latest_with (decode_all trace.now.records.bytes.now) self.old.latest f;
+          want = wanted_with (decode_all trace.now.records.bytes.now) self.old.want self.old.latest f;
+        } }
+    {
+        match trace.operation(f as usize) {
+            Op::Acquire => {
+                if trace.matching(f as usize) != f {
+                    self.visit_acquire(trace, f);
+                }
+            }
+            _ => self.want_event(trace, trace.awaited(f as usize)),
+        }
+    }
+
+    // Where the walk of task t ends, whose frontier was at event `old`: there, or for a task without events in
+    // the set at its start, which is then wanted.
+    fn begin(&mut self, trace: &Trace, t: usize, old: u16) -> u16
+        requires { t < tasks }
+        ensures end { result ≡ cond (eqb old 0) (start_in (decode_all trace.now.records.bytes.now) t) old }
+        ensures wanted { self.new ≡ record self.old {
+          want = cond (eqb old 0) (wanted (decode_all trace.now.records.bytes.now) self.old.want
+              (start_in (decode_all trace.now.records.bytes.now) t)) self.old.want;
+        } }
+    {
+        if old != 0 {
+            return old;
+        }
+        let start = trace.start(t);
+        self.want_event(trace, start);
+        start
+    }
+
+    // A turn of task t: the frontier moves to its wanted event, and each event of the task that it passes is
+    // visited.
+    fn turn(&mut self, trace: &Trace, t: usize)
+        requires { Settled (decode_all trace.now.records.bytes.now) self.old.front self.old.want self.old.latest
+            × (t < tasks) × (get_or self.old.front t 0 < get_or self.old.want t 0) }
+        ensures { Turned (decode_all trace.now.records.bytes.now) self.old.front self.old.want t
+            self.new.front self.new.want self.new.latest }
+    {
+        let old = self.front[t];
+        let mut f = self.want[t];
+        let end = self.begin(trace, t, old);
+        self.front[t] = f;
+        while end < f {
+            let next = trace.predecessor(f as usize);
+            self.visit(trace, f);
+            f = next;
+        }
+    }
+
+    // The first task whose wanted event the frontier has not reached, if any.
+    fn unreached(&self) -> Option<usize>
+        ensures { Unreached self.now.front self.now.want result }
+    {
+        self.front
+            .iter()
+            .zip(self.want.iter())
+            .position(|(at, wanted)| at < wanted)
+    }
+
+    // Advances the frontier task by task, until none has more to reach.
+    fn run(&mut self, trace: &Trace)
+        requires { Settled (decode_all trace.now.records.bytes.now) self.old.front self.old.want self.old.latest }
+        ensures { Advanced (decode_all trace.now.records.bytes.now) self.old.want self.new.front self.new.latest
+            × (self.new.want ≡ self.new.front) }
+    {
+        while let Some(t) = self.unreached() {
+            self.turn(trace, t);
+        }
+    }
 }
 
 impl Frontier {
@@ -124,25 +178,6 @@ impl Frontier {
         }
     }
 
-    // A turn of task t: the frontier moves to its wanted event, and each event of the task that it passes is
-    // visited.
-    fn turn(&mut self, trace: &Trace, want: &mut [u16; 16], t: usize)
-        requires { Settled (decode_all trace.now.records.bytes.now) self.old.front want.old self.old.latest
-            × (t < tasks) × (get_or self.old.front t 0 < get_or want.old t 0) }
-        ensures { Turned (decode_all trace.now.records.bytes.now) self.old.front want.old t
-            self.new.front want.new self.new.latest }
-    {
-        let old = self.front[t];
-        let mut f = want[t];
-        let end = begin(trace, want, t, old);
-        self.front[t] = f;
-        while end < f {
-            let next = trace.predecessor(f as usize);
-            visit(trace, want, &mut self.latest, f);
-            f = next;
-        }
-    }
-
     // Advances the frontier to that of the smallest closed set with the wanted events, task by task,
     // until none has more to reach. A closed set is extended the same way: with further events wanted.
     pub fn advance(&mut self, trace: &Trace, want: &mut [u16; 16])
@@ -150,9 +185,15 @@ impl Frontier {
         ensures { Advanced (decode_all trace.now.records.bytes.now) want.old self.new.front self.new.latest
             × (want.new ≡ self.new.front) }
     {
-        while let Some(t) = unreached(&self.front, want) {
-            self.turn(trace, want, t);
-        }
+        let mut advance = Advance {
+            front: self.front,
+            latest: self.latest,
+            want: *want,
+        };
+        advance.run(trace);
+        self.front = advance.front;
+        self.latest = advance.latest;
+        *want = advance.want;
     }
 
     // Extends the closed set by the predecessor of event e.
@@ -164,9 +205,15 @@ impl Frontier {
             (wanted (decode_all trace.now.records.bytes.now) self.old.front
             (predecessor (decode_all trace.now.records.bytes.now) e)) self.new.front self.new.latest }
     {
-        let mut want = self.front;
-        want_event(trace, &mut want, trace.predecessor(e));
-        self.advance(trace, &mut want);
+        let mut advance = Advance {
+            front: self.front,
+            latest: self.latest,
+            want: self.front,
+        };
+        advance.want_event(trace, trace.predecessor(e));
+        advance.run(trace);
+        self.front = advance.front;
+        self.latest = advance.latest;
     }
 
     // Event e is in the set.

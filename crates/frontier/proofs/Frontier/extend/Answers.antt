@@ -1,7 +1,6 @@
--- `frontier::Frontier::extend` meets its contract: with the predecessor wanted, the frontier advances.
--- Assumes nothing.
+-- `frontier::extend` meets its contract: with the predecessor wanted, the frontier advances. Assumes nothing.
 use Prim.Native.Nat.{◌≤◌}
-use mathlib.Core.Path.{◌≡◌}
+use mathlib.Core.Path.{◌≡◌, refl}
 use native.Mathlib.Omega.{arith}
 use lib.ListN.{length}
 use Rattle.model.specs.Relations.{predecessor}
@@ -24,10 +23,10 @@ known c =
 
 -- The wanted events with it.
 more : (c : goal.After-want_event)
-    → c.want_event.new.want
+    → c.want_event.new.self.want
     ≡ wanted (decode_all c.args.trace.now.records.bytes.now) c.args.self.now.front
     (predecessor (decode_all c.args.trace.now.records.bytes.now) c.args.e)
-more c = rw (← c.predecessor.ensures) c.want_event.ensures
+more c = rw (c.want_event.ensures, c.predecessor.ensures) refl
 
 pub want_event-requires : goal.want_event-requires
 want_event-requires c =
@@ -38,12 +37,12 @@ want_event-requires c =
       decode_all-length c.args.trace.now.records.bytes.now,
     )
 
-pub advance-requires : goal.advance-requires
-advance-requires c =
-    rw (more (goal.at.advance-requires c).After-want_event)
+pub run-requires : goal.run-requires
+run-requires c =
+    rw (c.want_event.ensures, c.predecessor.ensures)
     (settled-wanted _ (sound c.args.trace.now.records) _ _ _
     c.requires.0 _
-    (known (goal.at.advance-requires c).Start))
+    (known (goal.at.run-requires c).Start))
 
 pub returns : goal.returns
-returns c = rw (more (goal.at.returns c).After-want_event) at c.advance.ensures.0
+returns c = rw (more (goal.at.returns c).After-want_event) at c.run.ensures.0

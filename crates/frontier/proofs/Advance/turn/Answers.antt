@@ -1,30 +1,31 @@
--- `frontier::Frontier::turn` meets its contract: the frontier is on its way from the wanted event to the old one, or to
+-- `frontier::Advance::turn` meets its contract: the frontier is on its way from the wanted event to the old one, or to
 -- the task's start. Assumes nothing.
 use Prim.Native.Nat.{◌≤◌}
-use mathlib.Core.Path.{refl}
+use mathlib.Core.Path.{refl, ap}
+use Rattle.recording.proofs.Accepted.{sound}
+use Rattle.frontier.specs.declared.Advance.{Advance}
 use native.Mathlib.Omega.{arith}
 use lib.ListN.{length, get_or, set}
 use Rattle.model.specs.Recording.{decode_all}
 use Rattle.laws.proofs.Trace.{decode_all-length}
 use Rattle.laws.proofs.Relations.{predecessor_below}
-use Rattle.recording.proofs.Accepted.{sound}
 use Rattle.frontier.proofs.Turning.{Turning, turning_begin, turning-step, turning-again}
 use Rattle.frontier.proofs.Turning.{turning_end}
-use Rattle.frontier.proofs.Frontier.turn.Goals as goal
-use Rattle.frontier.proofs.Frontier.turn.Goals.{After-begin-end, In-loop-f}
+use Rattle.frontier.proofs.Advance.turn.Goals as goal
+use Rattle.frontier.proofs.Advance.turn.Goals.{After-begin-end, In-loop-f}
 
 -- The turn at its beginning.
-begun : (c : goal.After-begin-end) → let s =
-    c in
-    Turning (decode_all s.args.trace.now.records.bytes.now) (set s.args.self.now.front s.args.t (get_or
-    s.args.want.now s.args.t 0))
-    s.args.want.now c.begin-end.new.want s.args.self.now.latest s.args.t
-    (get_or s.args.self.now.front s.args.t 0) c.begin-end.result (get_or s.args.want.now s.args.t 0)
+begun : (c : goal.After-begin-end) → let s = c.begin-end.new.self in
+    let old = c.args.self.now in
+    let t = c.args.t in
+    Turning (decode_all c.args.trace.now.records.bytes.now) (set s.front t (get_or old.want t 0)) old.want s.want
+    s.latest t (get_or old.front t 0) c.begin-end.result (get_or old.want t 0)
 begun c =
-    turning_begin _ (sound c.args.trace.now.records) _ _ _ _
+    rw c.begin-end.ensures.wanted
+    (turning_begin _ (sound c.args.trace.now.records) _ _ _ _
     c.requires.0 c.requires.1
     c.requires.2
-    c.begin-end.ensures.0 c.begin-end.ensures.1
+    c.begin-end.ensures.end refl)
 
 -- The event to be visited,
 event : (c : goal.In-loop-f) → (1 ≤ c.loop-f.f)
@@ -55,19 +56,18 @@ loop-f-smaller c =
 
 pub loop-f-preserved : goal.loop-f-preserved
 loop-f-preserved c =
-    let v = c.visit.ensures in
     let k = c.loop-f.invariant in
-    record {
-      turning = rw (c.predecessor-next.ensures, v.wanted, v.latest)
-          (turning-step _ (sound c.args.trace.now.records) _ _ _ _ _ _
+    rw (c.predecessor-next.ensures, c.visit.ensures) record {
+      turning = turning-step _ (sound c.args.trace.now.records) _ _ _ _ _ _
           _ _
-          k.turning c.loop-f-test.true);
+          k.turning c.loop-f-test.true;
       front_is = k.front_is;
     }
 
 pub returns : goal.returns
 returns c =
     let k = c.loop-f.invariant in
+    let front = ap (λ (a : Advance). set a.front c.args.t (get_or c.args.self.now.want c.args.t 0)) c.begin-end.ensures.wanted in
     rw k.front_is
     (turning_end _ (sound c.args.trace.now.records) c.args.self.now.front
-    (begun (goal.at.returns c).After-begin-end) k.turning c.loop-f-test.false refl)
+    (begun (goal.at.returns c).After-begin-end) k.turning c.loop-f-test.false front)

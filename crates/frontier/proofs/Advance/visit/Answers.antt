@@ -1,6 +1,6 @@
--- `frontier::visit` meets its contract: each operation has its law. Assumes nothing.
+-- `frontier::Advance::visit` meets its contract: each operation has its law. Assumes nothing.
 use Prim.Native.Nat.{ℕ}
-use mathlib.Core.Path.{◌≡◌, refl}
+use mathlib.Core.Path.{◌≡◌, refl, ◌∙◌}
 use Rattle.model.specs.Trace.{at}
 use Rattle.model.specs.Recording.{decode_all}
 use Rattle.laws.specs.EventKinds.{marked}
@@ -11,8 +11,8 @@ use Rattle.recording.proofs.Accepted.{sound}
 use Rattle.recording.specs.declared.Op.TheVariants.{Acquire}
 use Rattle.recording.proofs.Laws.{code_apart}
 use Rattle.frontier.proofs.Leaves.{other_visited, uncounted_visited, acquire_visited, awaited_in}
-use Rattle.frontier.proofs.visit.Goals as goal
-use Rattle.frontier.proofs.visit.Goals.{Start}
+use Rattle.frontier.proofs.Advance.visit.Goals as goal
+use Rattle.frontier.proofs.Advance.visit.Goals.{Start}
 
 -- The event with its operation and its mark.
 unpacked : (c : goal.Start) (op m : ℕ) → op ≡ (at (decode_all c.args.trace.now.records.bytes.now) c.args.f).op
@@ -40,20 +40,21 @@ want_event-requires c =
 pub returns-then-matching-f : goal.returns-then-matching-f
 returns-then-matching-f c =
     let u = unpacked (goal.at.returns-then-matching-f c).Start 2 _ c.in-Acquire.ensures c.matching.ensures in
-    let visited = acquire_visited u c.args.want.now c.args.latest.now refl c.if-matching-f.true
-    (c.visit_acquire.ensures.wanted, c.visit_acquire.ensures.latest) in
-    record { wanted = visited.0; latest = visited.1 }
+    let a = c.args.self.now in
+    let (want, latest) = acquire_visited u a.want a.latest refl c.if-matching-f.true (refl, refl) in
+    c.visit_acquire.ensures ∙ rw (want, latest) refl
 
 pub returns-else-matching-f : goal.returns-else-matching-f
 returns-else-matching-f c =
     let u = unpacked (goal.at.returns-else-matching-f c).Start 2 _ c.in-Acquire.ensures c.matching.ensures in
-    let visited = uncounted_visited u c.args.want.now c.args.latest.now refl c.if-matching-f.false in
-    record { wanted = visited.0; latest = visited.1 }
+    let a = c.args.self.now in
+    let (want, latest) = uncounted_visited u a.want a.latest refl c.if-matching-f.false in
+    λ i. record { front = a.front; latest = latest i; want = want i }
 
 pub returns-in_default : goal.returns-in_default
 returns-in_default c =
     let u = unpacked (goal.at.returns-in_default c).Start _ _ c.operation.ensures refl in
-    let visited = other_visited u _ c.args.latest.now (code_apart _ Acquire c.in_default.not-Acquire)
-    c.awaited.ensures
-    c.want_event.ensures in
-    record { wanted = visited.0; latest = visited.1 }
+    let a = c.args.self.now in
+    let (want, latest) = other_visited u _ a.latest (code_apart _ Acquire c.in_default.not-Acquire)
+    c.awaited.ensures refl in
+    c.want_event.ensures ∙ (λ i. record { front = a.front; latest = latest i; want = want i })
