@@ -78,7 +78,7 @@ impl Grown {
         ensures { Attempted (decode_all trace.now.records.bytes.now) k (chain_of path.now) e result self.old
             self.new }
     {
-        if !deadlock::lock_in_mask(trace, back[k], e) {
+        if !deadlock::lock_in_mask(trace.records.bytes, back[k], e) {
             return Trial::Skipped;
         }
         let own = trace.task(e);

@@ -38,12 +38,11 @@ pub struct Chain {
 }
 
 // The lock of the acquire e is in the mask.
-pub fn lock_in_mask(trace: &Trace, mask: u64, e: usize) -> bool
-    requires { (1 ≤ e) × (2 * e ≤ length trace.now.records.bytes.now)
-        × T (is_acquire (decode_all trace.now.records.bytes.now) e) }
-    ensures { result ≡ has_bit mask (object (decode_all trace.now.records.bytes.now) e) }
+pub fn lock_in_mask(records: &[u8], mask: u64, e: usize) -> bool
+    requires { (1 ≤ e) × (2 * e ≤ length records.now) × T (is_acquire (decode_all records.now) e) }
+    ensures { result ≡ has_bit mask (object (decode_all records.now) e) }
 {
-    recording::in_mask(mask, trace.object(e) as u64)
+    recording::in_mask(mask, recording::object(records, e) as u64)
 }
 
 // The mask of tasks with that of event e.
@@ -108,7 +107,7 @@ impl Chain {
             ≡ fits (signature (decode_all trace.now.records.bytes.now)) (of_events [] self.now) e }
     {
         let held = trace.held(e);
-        if !lock_in_mask(trace, held, self.last) {
+        if !lock_in_mask(trace.records.bytes, held, self.last) {
             return false;
         }
         if recording::in_mask(self.tasks, trace.task(e) as u64) {
@@ -144,7 +143,7 @@ impl Chain {
         ensures { result
             ≡ closes (signature (decode_all trace.now.records.bytes.now)) (of_events [] self.now) }
     {
-        lock_in_mask(trace, trace.held(self.first), self.last)
+        lock_in_mask(trace.records.bytes, trace.held(self.first), self.last)
     }
 }
 

@@ -215,7 +215,7 @@ pub fn ways_back(trace: &Trace, lead: &[u64; 64], a: usize, count: usize) -> Opt
     ensures { WaysBack (decode_all trace.now.records.bytes.now) a count result }
 {
     let back = fill_back(lead, trace.held(a), count);
-    if !deadlock::lock_in_mask(trace, back[count - 1], a) {
+    if !deadlock::lock_in_mask(trace.records.bytes, back[count - 1], a) {
         return None;
     }
     Some(back)
