@@ -11,12 +11,12 @@ pub loop-t-smaller : goal.loop-t-smaller
 loop-t-smaller c =
     let k = c.loop-t in
     let b = c.args.trace.now.records.bytes.now in
-    round_less (decode_all b) c.args.self.now.want k.self.front k.self.want k.self.latest k.invariant
+    round_less (decode_all b) c.args.self.now.want k.self.frontier.front k.self.want k.self.frontier.latest k.invariant
     (omega (arith, c.args.trace.now.records.short, decode_all-length b)) _ c.in-Some.ensures _ _ _ c.turn.ensures
 
 pub returns : goal.returns
 returns c =
     let k = c.loop-t in
     let b = c.args.trace.now.records.bytes.now in
-    round_end (decode_all b) c.args.self.now.want k.self.front k.self.want k.self.latest k.invariant
+    round_end (decode_all b) c.args.self.now.want k.self.frontier.front k.self.want k.self.frontier.latest k.invariant
     (events_sound b c.args.trace.now.records.accepted) c.in_default.ensures

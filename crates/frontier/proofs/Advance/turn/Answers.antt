@@ -18,8 +18,8 @@ use Rattle.frontier.proofs.Advance.turn.Goals.{After-begin-end, In-loop-f}
 begun : (c : goal.After-begin-end) → let s = c.begin-end.new.self in
     let old = c.args.self.now in
     let t = c.args.t in
-    Turning (decode_all c.args.trace.now.records.bytes.now) (set s.front t (get_or old.want t 0)) old.want s.want
-    s.latest t (get_or old.front t 0) c.begin-end.result (get_or old.want t 0)
+    Turning (decode_all c.args.trace.now.records.bytes.now) (set s.frontier.front t (get_or old.want t 0)) old.want s.want
+    s.frontier.latest t (get_or old.frontier.front t 0) c.begin-end.result (get_or old.want t 0)
 begun c =
     rw c.begin-end.ensures.wanted
     (turning_begin _ (events_sound c.args.trace.now.records.bytes.now c.args.trace.now.records.accepted) _ _ _ _
@@ -67,7 +67,7 @@ loop-f-preserved c =
 pub returns : goal.returns
 returns c =
     let k = c.loop-f.invariant in
-    let front = ap (λ (a : Advance). set a.front c.args.t (get_or c.args.self.now.want c.args.t 0)) c.begin-end.ensures.wanted in
+    let front = ap (λ (a : Advance). set a.frontier.front c.args.t (get_or c.args.self.now.want c.args.t 0)) c.begin-end.ensures.wanted in
     rw k.front_is
-    (turning_end _ (events_sound c.args.trace.now.records.bytes.now c.args.trace.now.records.accepted) c.args.self.now.front
+    (turning_end _ (events_sound c.args.trace.now.records.bytes.now c.args.trace.now.records.accepted) c.args.self.now.frontier.front
     (begun (goal.at.returns c).After-begin-end) k.turning c.loop-f-test.false front)
