@@ -2,15 +2,15 @@
 // frontier, the latest event that it has of each task; an event is visited once, when the frontier passes it.
 #![tactic(auto)]
 
-ghost use Rattle.std.specs.Prelude.{ℕ, suc, ◌*◌, ◌<◌, ◌≤◌, min, ◌≡◌, cond, length, get_or, eqb, leb};
-ghost use Rattle.std.specs.Prelude.{replicate};
+ghost use Rattle.std.specs.Prelude.{◌*◌, ◌<◌, ◌≤◌, ◌≡◌, cond, length, get_or, eqb, leb, replicate};
 ghost use Rattle.model.specs.Trace.{tasks, locks, task, object};
 ghost use Rattle.model.specs.Relations.{predecessor};
 ghost use Rattle.laws.specs.EventKinds.{marked};
 ghost use Rattle.model.specs.Recording.{decode_all};
 ghost use Rattle.laws.specs.Order.{start_in};
-ghost use Rattle.laws.specs.Frontier.{Settled, raised, wanted, Advanced, Turned};
-ghost use Rattle.frontier.specs.Visit.{Underway, after_raise, after_want, after_acquire, after_visit, Unreached};
+ghost use Rattle.laws.specs.Frontier.{Settled, wanted, Advanced, Turned};
+ghost use Rattle.frontier.specs.Visit.{Underway, after_raise, after_want, after_acquire, after_visit};
+ghost use Rattle.frontier.specs.Visit.{Unreached};
 
 use recording::Op;
 use relations::Trace;
@@ -187,7 +187,8 @@ impl Frontier {
 
     // Extends the closed set by the predecessor of event e.
     pub fn extend(&mut self, trace: &Trace, e: usize)
-        requires { Settled (decode_all trace.now.records.bytes.now) self.old.front self.old.front self.old.latest
+        requires { Settled (decode_all trace.now.records.bytes.now) self.old.front self.old.front
+            self.old.latest
             × (1 ≤ e) × (2 * e ≤ length trace.now.records.bytes.now) }
         ensures { Advanced (decode_all trace.now.records.bytes.now)
             (wanted (decode_all trace.now.records.bytes.now) self.old.front

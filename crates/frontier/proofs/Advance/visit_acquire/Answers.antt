@@ -1,5 +1,5 @@
--- `frontier::Advance::visit_acquire` meets its contract: the earlier of two acquires is an event, since f is one.
--- Assumes nothing.
+-- `frontier::Advance::visit_acquire` meets its contract: f is the earlier of two acquires, or the latest one
+-- before is. Assumes nothing.
 use Prim.Native.Nat.{◌≤◌, ◌<◌, min}
 use mathlib.Core.Path.{refl, ◌∙◌, ◌≡◌}
 use mathlib.Core.Logic.{◌≢◌}
@@ -36,4 +36,5 @@ returns c =
     let later : top < f = omega (arith, c.if-f-top.false) in
     let first : top ≡ min top f = omega arith in
     rw (← c.object-l.ensures.1)
-    (c.want_match-2.ensures ∙ rw (wanted_earlier_some _ _ top f c.if-top-eq0.false first, lt-ltb top f later) refl)
+    (c.want_match-2.ensures
+    ∙ rw (wanted_earlier_some _ _ top f c.if-top-eq0.false first, lt-ltb top f later) refl)
