@@ -147,12 +147,12 @@ begun last frontier {t} {l = l} {P = P} same is m p = rw (← same) (cases last 
     new : {old : Option (ℕ × Frontier)} → P → Begun t old frontier l
     new x = let q = p x in (ap (λ (l : ℕ × Frontier). l.0) q, inl (ap (λ (l : ℕ × Frontier). l.1) q))
 
-    cases : (old : Option (ℕ × Frontier)) → MatchOption (kept_of t old) P (λ x. l ≡ x) → Begun t old frontier l
+    cases : (old : Option (ℕ × Frontier)) → MatchOption (kept_of t old) P (λ x. l ≡ x)
+        → Begun t old frontier l
     cases None n = new n
     cases (Some (u, g)) n =
         ⊎_elim
-        (λ (q : u ≡ t). let k : l ≡ (u, g) = rw (eq-eqb u t q) at n in
-        rw (k, q) (refl, inr refl))
+        (λ (q : u ≡ t). let k : l ≡ (u, g) = rw (eq-eqb u t q) at n in rw (k, q) (refl, inr refl))
         (λ (d : u ≢ t). new (rw (ne_eqb u t d) at n))
         (equal? u t)
 

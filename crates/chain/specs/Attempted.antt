@@ -1,6 +1,6 @@
 -- Paths of the search, and one event more: what is decided of it.
-use Rattle.std.specs.Prelude.{ℕ, ◌^◌, ◌≤◌, ◌<◌, ◌≡◌, ◌≢◌, true, cond, List, [], ◌∷◌, ◌++◌, Option, Some, None, eqb}
-use Rattle.std.specs.Prelude.{length, take, not, leb, get_or}
+use Rattle.std.specs.Prelude.{ℕ, ◌^◌, ◌≤◌, ◌<◌, ◌≡◌, ◌≢◌, true, cond, not, List, [], ◌∷◌, ◌++◌, Option, Some}
+use Rattle.std.specs.Prelude.{None, eqb, leb, length, take, get_or}
 use Rattle.std.specs.Int.Bits.{bit_or}
 use Rattle.model.specs.Lists.{all}
 use Rattle.model.specs.Trace.{Trace, task}
@@ -32,8 +32,8 @@ abbrev pub kept_of : ℕ → Option (ℕ × Frontier) → Option (ℕ × Frontie
 kept_of t None = None
 kept_of t (Some (u, f)) = cond (eqb u t) (Some (u, f)) None
 
--- What the frontier of the closure of the predecessors of the events p and e decides of e: where it has one of
--- p, a later event of the task has it as well.
+-- What the frontier of the closure of the predecessors of the events p and e decides of e: where its set has
+-- one of p, it has it for later events of the task as well.
 abbrev pub judged : Trace → List ℕ → Frontier → ℕ → Trial
 judged σ p f e =
     cond (all (λ d. not (leb d (get_or f.front (task σ d) 0))) p)

@@ -4,15 +4,13 @@
 
 mod path;
 
-ghost use Rattle.std.specs.Prelude.{ℕ, suc, ◌*◌, ◌<◌, ◌≤◌, ◌≡◌, ◌≢◌, List, [], ◌∷◌, ◌++◌, T, length};
-ghost use Rattle.std.specs.Prelude.{Some, None};
+ghost use Rattle.std.specs.Prelude.{suc, ◌*◌, ◌<◌, ◌≤◌, ◌≡◌, T, length, None};
 ghost use Rattle.model.specs.Lists.{all};
-ghost use Rattle.model.specs.Trace.{task, is_event, is_acquire};
+ghost use Rattle.model.specs.Trace.{is_event, is_acquire};
 ghost use Rattle.model.specs.Recording.{decode_all};
 ghost use Rattle.model.specs.Pattern.{largest_pattern};
 ghost use Rattle.laws.specs.Frontier.{Before};
 ghost use Rattle.laws.specs.Returning.{Returning};
-ghost use Rattle.frontier.specs.declared.Frontier.{Frontier};
 ghost use Rattle.chain.specs.Attempted.{chain_of, Reusable, kept_of, judged, Attempted, excluded_after};
 
 use deadlock::Chain;
@@ -89,11 +87,13 @@ impl Grown {
     }
 }
 
-// What is found of event e after the events of the path, by the frontier of the closure of their predecessors.
+// What is found of event e after the events of the path, by the frontier of the closure of their
+// predecessors.
 fn judge(trace: &Trace, path: &Path, grown: &Frontier, e: usize) -> Trial
     requires { T (all (is_event (decode_all trace.now.records.bytes.now)) (chain_of path.now).events)
         × (1 ≤ e) × (2 * e ≤ length trace.now.records.bytes.now) }
-    ensures { result ≡ judged (decode_all trace.now.records.bytes.now) (chain_of path.now).events grown.now e }
+    ensures { result ≡ judged (decode_all trace.now.records.bytes.now) (chain_of path.now).events grown.now
+        e }
 {
     let events = path.events();
     if !deadlock::avoids(trace, events.len(), |i| events[i], grown) {

@@ -1,9 +1,22 @@
--- Visiting one event: what it adds to the wanted events, and to the latest acquires.
+-- An advance, and visiting one event: what it adds to the wanted events, and to the latest acquires.
 use Rattle.std.specs.Prelude.{ℕ, ◌<◌, ◌≤◌, min, cond, List, Option, Some, None, eqb, get_or}
 use Rattle.model.specs.Trace.{Trace, tasks, task, object, is_acquire}
 use Rattle.laws.specs.Order.{awaited}
 use Rattle.laws.specs.EventKinds.{marked}
-use Rattle.laws.specs.Frontier.{raised, wanted}
+use Rattle.laws.specs.Frontier.{Settled, raised, wanted}
+use Rattle.frontier.specs.declared.Advance.{Advance}
+
+-- The advance goes on: what it wants is ahead of its frontier, all of whose set has been visited.
+abbrev pub Underway : Trace → Advance → Type 0
+Underway σ a = Settled σ a.frontier.front a.want a.frontier.latest
+
+-- The advance, when event e of task t is wanted as well,
+abbrev pub after_raise : Advance → ℕ → ℕ → Advance
+after_raise a t e = record a { want = raised a.want t e }
+
+-- and when event x of whatever task is wanted, unless it is 0.
+abbrev pub after_want : Trace → Advance → ℕ → Advance
+after_want σ a x = record a { want = wanted σ a.want x }
 
 -- The wanted events with the marked match of the earlier one of `top` and f, unless `top` is 0. Of two outer
 -- acquires that is the match.
@@ -21,6 +34,20 @@ wanted_with σ want latest f =
 -- The latest acquires with event f.
 unfoldable pub latest_with : Trace → List ℕ → ℕ → List ℕ
 latest_with σ latest f = cond (is_acquire σ f) (raised latest (object σ f) f) latest
+
+-- The advance, when the outer acquire f is visited,
+abbrev pub after_acquire : Trace → Advance → ℕ → Advance
+after_acquire σ a f = record {
+  frontier = record a.frontier { latest = raised a.frontier.latest (object σ f) f };
+  want = wanted_earlier σ a.want (get_or a.frontier.latest (object σ f) 0) f;
+}
+
+-- and when event f is.
+abbrev pub after_visit : Trace → Advance → ℕ → Advance
+after_visit σ a f = record {
+  frontier = record a.frontier { latest = latest_with σ a.frontier.latest f };
+  want = wanted_with σ a.want a.frontier.latest f;
+}
 
 -- The first task whose wanted event the frontier has not reached, or that there is none.
 abbrev pub Unreached : List ℕ → List ℕ → Option ℕ → Type 0

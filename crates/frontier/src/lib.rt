@@ -2,15 +2,15 @@
 // frontier, the latest event that it has of each task; an event is visited once, when the frontier passes it.
 #![tactic(auto)]
 
-ghost use Rattle.std.specs.Prelude.{ℕ, suc, ◌*◌, ◌<◌, ◌≤◌, min, ◌≡◌, cond, length, get_or, eqb, leb};
-ghost use Rattle.std.specs.Prelude.{replicate};
+ghost use Rattle.std.specs.Prelude.{◌*◌, ◌<◌, ◌≤◌, ◌≡◌, cond, length, get_or, eqb, leb, replicate};
 ghost use Rattle.model.specs.Trace.{tasks, locks, task, object};
 ghost use Rattle.model.specs.Relations.{predecessor};
 ghost use Rattle.laws.specs.EventKinds.{marked};
 ghost use Rattle.model.specs.Recording.{decode_all};
 ghost use Rattle.laws.specs.Order.{start_in};
-ghost use Rattle.laws.specs.Frontier.{Settled, raised, wanted, Advanced, Turned};
-ghost use Rattle.frontier.specs.Visit.{wanted_earlier, latest_with, wanted_with, Unreached};
+ghost use Rattle.laws.specs.Frontier.{Settled, wanted, Advanced, Turned};
+ghost use Rattle.frontier.specs.Visit.{Underway, after_raise, after_want, after_acquire, after_visit};
+ghost use Rattle.frontier.specs.Visit.{Unreached};
 
 use recording::Op;
 use relations::Trace;
@@ -23,46 +23,41 @@ pub struct Frontier {
     pub latest: [u16; 64],
 }
 
-// A frontier on its way to a closed set, and of each task the event that is wanted.
+// A frontier on its way to that of a closed set, and of each task the event that it is to reach.
 #[derive(Drop)]
 struct Advance {
-    front: [u16; 16],
-    latest: [u16; 64],
+    frontier: Frontier,
     want: [u16; 16],
 }
 
-// Raises entry i of a table of events, one for each task or each lock, to event e, where e is later.
-fn raise(events: &mut [u16], i: usize, e: u16)
-    requires { i < length events.old }
-    ensures { events.new ≡ raised events.old i e }
-{
-    events[i] = events[i].max(e);
-}
-
 impl Advance {
-    // Wants, in the task of event e, its match, or of one that does not count its own number.
+    // Wants event e of task t, where it is later than the one that is wanted.
+    fn raise(&mut self, t: usize, e: u16)
+        requires { t < tasks }
+        ensures { self.new ≡ after_raise self.old t e }
+    {
+        self.want[t] = self.want[t].max(e);
+    }
+
+    // Wants the match of event e, or of one that does not count its own number.
     fn want_match(&mut self, trace: &Trace, e: u16)
         requires { (1 ≤ e) × (2 * e ≤ length trace.now.records.bytes.now) }
-        ensures { self.new ≡ record self.old {
-          want = raised self.old.want (task (decode_all trace.now.records.bytes.now) e)
-              (marked (decode_all trace.now.records.bytes.now) e);
-        } }
+        ensures { self.new ≡ after_raise self.old (task (decode_all trace.now.records.bytes.now) e)
+            (marked (decode_all trace.now.records.bytes.now) e) }
     {
         let at = e as usize;
-        raise(&mut self.want, trace.task(at) as usize, trace.matching(at));
+        self.raise(trace.task(at) as usize, trace.matching(at));
     }
 
     // Wants event x of whatever task, unless it is 0.
     fn want_event(&mut self, trace: &Trace, x: u16)
         requires { 2 * x ≤ length trace.now.records.bytes.now }
-        ensures { self.new ≡ record self.old {
-          want = wanted (decode_all trace.now.records.bytes.now) self.old.want x;
-        } }
+        ensures { self.new ≡ after_want (decode_all trace.now.records.bytes.now) self.old x }
     {
         if x == 0 {
             return;
         }
-        raise(&mut self.want, trace.task(x as usize) as usize, x);
+        self.raise(trace.task(x as usize) as usize, x);
     }
 
     // Visits the outer acquire f: notes it where it is later than the latest one of its lock that was visited
@@ -70,19 +65,15 @@ impl Advance {
     fn visit_acquire(&mut self, trace: &Trace, f: u16)
         requires { (1 ≤ f) × (2 * f ≤ length trace.now.records.bytes.now)
             × (object (decode_all trace.now.records.bytes.now) f < locks) }
-        ensures { self.new ≡ record self.old {
-          latest = raised self.old.latest (object (decode_all trace.now.records.bytes.now) f) f;
-          want = wanted_earlier (decode_all trace.now.records.bytes.now) self.old.want
-              (get_or self.old.latest (object (decode_all trace.now.records.bytes.now) f) 0) f;
-        } }
+        ensures { self.new ≡ after_acquire (decode_all trace.now.records.bytes.now) self.old f }
     {
         let l = trace.object(f as usize) as usize;
-        let top = self.latest[l];
+        let top = self.frontier.latest[l];
         if f <= top {
             self.want_match(trace, f);
             return;
         }
-        self.latest[l] = f;
+        self.frontier.latest[l] = f;
         if top == 0 {
             return;
         }
@@ -93,10 +84,7 @@ impl Advance {
     // acquire, which is marked by its own number, changes nothing.
     fn visit(&mut self, trace: &Trace, f: u16)
         requires { (1 ≤ f) × (2 * f ≤ length trace.now.records.bytes.now) }
-        ensures { self.new ≡ record self.old {
-          latest = latest_with (decode_all trace.now.records.bytes.now) self.old.latest f;
-          want = wanted_with (decode_all trace.now.records.bytes.now) self.old.want self.old.latest f;
-        } }
+        ensures { self.new ≡ after_visit (decode_all trace.now.records.bytes.now) self.old f }
     {
         match trace.operation(f as usize) {
             Op::Acquire => {
@@ -108,18 +96,19 @@ impl Advance {
         }
     }
 
-    // Where the walk of task t ends, whose frontier was at event `old`: there, or for a task without events in
-    // the set at its start, which is then wanted.
-    fn begin(&mut self, trace: &Trace, t: usize, old: u16) -> u16
+    // Where the walk of task t ends: at the frontier, or for a task without events in the set at its start,
+    // which is then wanted.
+    fn begin(&mut self, trace: &Trace, t: usize) -> u16
         requires { t < tasks }
-        ensures end { result ≡ cond (eqb old 0) (start_in (decode_all trace.now.records.bytes.now) t) old }
-        ensures wanted { self.new ≡ record self.old {
-          want = cond (eqb old 0) (wanted (decode_all trace.now.records.bytes.now) self.old.want
-              (start_in (decode_all trace.now.records.bytes.now) t)) self.old.want;
-        } }
+        ensures end { result ≡ cond (eqb (get_or self.old.frontier.front t 0) 0)
+            (start_in (decode_all trace.now.records.bytes.now) t) (get_or self.old.frontier.front t 0) }
+        ensures wanted { self.new ≡ after_want (decode_all trace.now.records.bytes.now) self.old
+            (cond (eqb (get_or self.old.frontier.front t 0) 0)
+            (start_in (decode_all trace.now.records.bytes.now) t) 0) }
     {
-        if old != 0 {
-            return old;
+        let at = self.frontier.front[t];
+        if at != 0 {
+            return at;
         }
         let start = trace.start(t);
         self.want_event(trace, start);
@@ -127,17 +116,16 @@ impl Advance {
     }
 
     // A turn of task t: the frontier moves to its wanted event, and each event of the task that it passes is
-    // visited.
+    // visited. Its predecessor is looked up before, so that the walk does not wait for the visit.
     fn turn(&mut self, trace: &Trace, t: usize)
-        requires { Settled (decode_all trace.now.records.bytes.now) self.old.front self.old.want self.old.latest
-            × (t < tasks) × (get_or self.old.front t 0 < get_or self.old.want t 0) }
-        ensures { Turned (decode_all trace.now.records.bytes.now) self.old.front self.old.want t
-            self.new.front self.new.want self.new.latest }
+        requires { Underway (decode_all trace.now.records.bytes.now) self.old × (t < tasks)
+            × (get_or self.old.frontier.front t 0 < get_or self.old.want t 0) }
+        ensures { Turned (decode_all trace.now.records.bytes.now) self.old.frontier.front self.old.want t
+            self.new.frontier.front self.new.want self.new.frontier.latest }
     {
-        let old = self.front[t];
         let mut f = self.want[t];
-        let end = self.begin(trace, t, old);
-        self.front[t] = f;
+        let end = self.begin(trace, t);
+        self.frontier.front[t] = f;
         while end < f {
             let next = trace.predecessor(f as usize);
             self.visit(trace, f);
@@ -147,19 +135,22 @@ impl Advance {
 
     // The first task whose wanted event the frontier has not reached, if any.
     fn unreached(&self) -> Option<usize>
-        ensures { Unreached self.now.front self.now.want result }
+        ensures { Unreached self.now.frontier.front self.now.want result }
     {
-        self.front
+        self.frontier
+            .front
             .iter()
             .zip(self.want.iter())
             .position(|(at, wanted)| at < wanted)
     }
 
-    // Advances the frontier task by task, until none has more to reach.
+    // Advances the frontier to that of the smallest closed set with the wanted events, task by task, until
+    // none has more to reach. Inlined, it would be compiled to look up predecessors after the visits.
+    #[inline(never)]
     fn run(&mut self, trace: &Trace)
-        requires { Settled (decode_all trace.now.records.bytes.now) self.old.front self.old.want self.old.latest }
-        ensures { Advanced (decode_all trace.now.records.bytes.now) self.old.want self.new.front self.new.latest
-            × (self.new.want ≡ self.new.front) }
+        requires { Underway (decode_all trace.now.records.bytes.now) self.old }
+        ensures { Advanced (decode_all trace.now.records.bytes.now) self.old.want self.new.frontier.front
+            self.new.frontier.latest × (self.new.want ≡ self.new.frontier.front) }
     {
         while let Some(t) = self.unreached() {
             self.turn(trace, t);
@@ -178,21 +169,19 @@ impl Frontier {
         }
     }
 
-    // Advances the frontier to that of the smallest closed set with the wanted events, task by task,
-    // until none has more to reach. A closed set is extended the same way: with further events wanted.
+    // Advances the frontier to that of the smallest closed set with the wanted events. A closed set is
+    // extended the same way: with further events wanted.
     pub fn advance(&mut self, trace: &Trace, want: &mut [u16; 16])
         requires { Settled (decode_all trace.now.records.bytes.now) self.old.front want.old self.old.latest }
         ensures { Advanced (decode_all trace.now.records.bytes.now) want.old self.new.front self.new.latest
             × (want.new ≡ self.new.front) }
     {
         let mut advance = Advance {
-            front: self.front,
-            latest: self.latest,
+            frontier: *self,
             want: *want,
         };
         advance.run(trace);
-        self.front = advance.front;
-        self.latest = advance.latest;
+        *self = advance.frontier;
         *want = advance.want;
     }
 
@@ -206,14 +195,12 @@ impl Frontier {
             (predecessor (decode_all trace.now.records.bytes.now) e)) self.new.front self.new.latest }
     {
         let mut advance = Advance {
-            front: self.front,
-            latest: self.latest,
+            frontier: *self,
             want: self.front,
         };
         advance.want_event(trace, trace.predecessor(e));
         advance.run(trace);
-        self.front = advance.front;
-        self.latest = advance.latest;
+        *self = advance.frontier;
     }
 
     // Event e is in the set.

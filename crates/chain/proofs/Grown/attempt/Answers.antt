@@ -26,8 +26,8 @@ extend-requires c =
 pub returns-then-not-lock_in_mask : goal.returns-then-not-lock_in_mask
 returns-then-not-lock_in_mask c =
     let a = c.args in
-    attempted_nowhere (decode_all a.trace.now.records.bytes.now) a.k (chain_of a.path.now) a.e a.self.now a.back.now
-    c.requires.0 (sym c.lock_in_mask.ensures ∙ c.if-not-lock_in_mask.true)
+    attempted_nowhere (decode_all a.trace.now.records.bytes.now) a.k (chain_of a.path.now) a.e a.self.now
+    a.back.now c.requires.0 (sym c.lock_in_mask.ensures ∙ c.if-not-lock_in_mask.true)
 
 pub returns : goal.returns
 returns c =
@@ -37,7 +37,7 @@ returns c =
     let event = record-event b a.e (c.requires.5, c.requires.6) in
     let (own, from) = begun a.self.now.last a.frontier.now c.task-own.ensures.1 c.keep.ensures
     c.get_or_insert_with.ensures.cases (λ p. search rules) in
+    let reached = grow_reaches σ (sound a.trace.now.records) a.e event a.frontier.now _
+    a.self.now from _ _ c.extend.ensures _ c.requires.1 c.requires.3 c.requires.4 in
     rw c.judge.ensures (attempted_judged σ a.k (chain_of a.path.now) a.e a.self.now _ c.extend.new.self
-    (ap (λ (t : ℕ). Some (t, c.extend.new.self)) own) c.requires.1 event
-    (grow_reaches σ (sound a.trace.now.records) a.e event a.frontier.now _ a.self.now from _ _
-    c.extend.ensures _ c.requires.1 c.requires.3 c.requires.4))
+    (ap (λ (t : ℕ). Some (t, c.extend.new.self)) own) c.requires.1 event reached)

@@ -1,4 +1,5 @@
--- `frontier::Advance::begin` meets its contract: behind the predecessors the table has the start. Assumes nothing.
+-- `frontier::Advance::begin` meets its contract: behind the predecessors the table has the start. Assumes
+-- nothing.
 use native.Mathlib.Omega.{arith}
 use Rattle.model.specs.Recording.{decode_all}
 use Rattle.laws.proofs.Trace.{decode_all-length}

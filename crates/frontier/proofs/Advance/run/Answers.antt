@@ -1,5 +1,5 @@
--- `frontier::Advance::run` meets its contract: each turn brings the frontier on, until no task has more to reach.
--- Assumes nothing.
+-- `frontier::Advance::run` meets its contract: each turn brings the frontier on, until no task has more to
+-- reach. Assumes nothing.
 use native.Mathlib.Omega.{arith}
 use Rattle.model.specs.Recording.{decode_all}
 use Rattle.laws.proofs.Trace.{decode_all-length}
@@ -9,14 +9,15 @@ use Rattle.frontier.proofs.Advance.run.Goals as goal
 
 pub loop-t-smaller : goal.loop-t-smaller
 loop-t-smaller c =
-    let k = c.loop-t in
+    let a = c.loop-t.self in
     let b = c.args.trace.now.records.bytes.now in
-    round_less (decode_all b) c.args.self.now.want k.self.front k.self.want k.self.latest k.invariant
-    (omega (arith, c.args.trace.now.records.short, decode_all-length b)) _ c.in-Some.ensures _ _ _ c.turn.ensures
+    round_less (decode_all b) c.args.self.now.want a.frontier.front a.want a.frontier.latest c.loop-t.invariant
+    (omega (arith, c.args.trace.now.records.short, decode_all-length b)) _ c.in-Some.ensures _ _ _
+    c.turn.ensures
 
 pub returns : goal.returns
 returns c =
-    let k = c.loop-t in
+    let a = c.loop-t.self in
     let b = c.args.trace.now.records.bytes.now in
-    round_end (decode_all b) c.args.self.now.want k.self.front k.self.want k.self.latest k.invariant
+    round_end (decode_all b) c.args.self.now.want a.frontier.front a.want a.frontier.latest c.loop-t.invariant
     (sound c.args.trace.now.records) c.in_default.ensures

@@ -1,5 +1,5 @@
--- `frontier::Advance::turn` meets its contract: the frontier is on its way from the wanted event to the old one, or to
--- the task's start. Assumes nothing.
+-- `frontier::Advance::turn` meets its contract: the frontier is on its way from the wanted event to the old
+-- one, or to the task's start. Assumes nothing.
 use Prim.Native.Nat.{◌≤◌}
 use mathlib.Core.Path.{refl, ap}
 use Rattle.recording.proofs.Accepted.{sound}
@@ -18,14 +18,14 @@ use Rattle.frontier.proofs.Advance.turn.Goals.{After-begin-end, In-loop-f}
 begun : (c : goal.After-begin-end) → let s = c.begin-end.new.self in
     let old = c.args.self.now in
     let t = c.args.t in
-    Turning (decode_all c.args.trace.now.records.bytes.now) (set s.front t (get_or old.want t 0)) old.want s.want
-    s.latest t (get_or old.front t 0) c.begin-end.result (get_or old.want t 0)
+    let first = get_or old.want t 0 in
+    Turning (decode_all c.args.trace.now.records.bytes.now) (set s.frontier.front t first) old.want s.want
+    s.frontier.latest t (get_or old.frontier.front t 0) c.begin-end.result first
 begun c =
+    let records = c.args.trace.now.records in
     rw c.begin-end.ensures.wanted
-    (turning_begin _ (sound c.args.trace.now.records) _ _ _ _
-    c.requires.0 c.requires.1
-    c.requires.2
-    c.begin-end.ensures.end refl)
+    (turning_begin _ (sound records) _ _ _ _ c.requires.0 c.requires.1
+    c.requires.2 c.begin-end.ensures.end refl)
 
 -- The event to be visited,
 event : (c : goal.In-loop-f) → (1 ≤ c.loop-f.f)
@@ -33,11 +33,12 @@ event : (c : goal.In-loop-f) → (1 ≤ c.loop-f.f)
 event c = (c.loop-f.invariant.turning.more c.loop-f-test.true).3.event
 
 pub loop-f-init : goal.loop-f-init
-loop-f-init c = record {
-  turning = turning-again _ (sound c.args.trace.now.records)
-      (begun (goal.at.loop-f-init c).After-begin-end);
-  front_is = refl;
-}
+loop-f-init c =
+    let records = c.args.trace.now.records in record {
+      turning = turning-again _ (sound records)
+          (begun (goal.at.loop-f-init c).After-begin-end);
+      front_is = refl;
+    }
 
 pub visit-requires : goal.visit-requires
 visit-requires c =
@@ -56,18 +57,21 @@ loop-f-smaller c =
 
 pub loop-f-preserved : goal.loop-f-preserved
 loop-f-preserved c =
+    let records = c.args.trace.now.records in
     let k = c.loop-f.invariant in
     rw (c.predecessor-next.ensures, c.visit.ensures) record {
-      turning = turning-step _ (sound c.args.trace.now.records) _ _ _ _ _ _
-          _ _
-          k.turning c.loop-f-test.true;
+      turning = turning-step _ (sound records) _ _ _ _ _ _ _ _ k.turning
+          c.loop-f-test.true;
       front_is = k.front_is;
     }
 
 pub returns : goal.returns
 returns c =
+    let old = c.args.self.now in
+    let t = c.args.t in
+    let records = c.args.trace.now.records in
     let k = c.loop-f.invariant in
-    let front = ap (λ (a : Advance). set a.front c.args.t (get_or c.args.self.now.want c.args.t 0)) c.begin-end.ensures.wanted in
+    let front = ap (λ (a : Advance). set a.frontier.front t (get_or old.want t 0)) c.begin-end.ensures.wanted in
     rw k.front_is
-    (turning_end _ (sound c.args.trace.now.records) c.args.self.now.front
+    (turning_end _ (sound records) old.frontier.front
     (begun (goal.at.returns c).After-begin-end) k.turning c.loop-f-test.false front)

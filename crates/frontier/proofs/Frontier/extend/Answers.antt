@@ -1,4 +1,4 @@
--- `frontier::extend` meets its contract: with the predecessor wanted, the frontier advances. Assumes nothing.
+-- `frontier::Frontier::extend` meets its contract: with the predecessor wanted, the frontier advances. Assumes nothing.
 use Prim.Native.Nat.{◌≤◌}
 use mathlib.Core.Path.{◌≡◌, refl}
 use native.Mathlib.Omega.{arith}
@@ -39,9 +39,9 @@ want_event-requires c =
 
 pub run-requires : goal.run-requires
 run-requires c =
+    let records = c.args.trace.now.records in
     rw (c.want_event.ensures, c.predecessor.ensures)
-    (settled-wanted _ (sound c.args.trace.now.records) _ _ _
-    c.requires.0 _
+    (settled-wanted _ (sound records) _ _ _ c.requires.0 _
     (known (goal.at.run-requires c).Start))
 
 pub returns : goal.returns
