@@ -31,7 +31,7 @@ pub enum Trial {
 
 // The last attempt at one event more of a path that asked for a closure, if there was one: the task of this
 // event, and the frontier.
-#[derive(Drop)]
+#[derive(Clone, Copy, Debug, PartialEq, Eq, Hash)]
 pub struct Grown {
     last: Option<(u8, Frontier)>,
 }

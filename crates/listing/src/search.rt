@@ -28,82 +28,84 @@ struct Search<'a> {
     ghost returning: { Returning (decode_all links.now.trace.now.records.bytes.now) first size.events back },
 }
 
-// Takes what begins with a path that is a deadlock so far: it alone where it is complete, and otherwise what
-// extends it by at most k events.
-#[cycle(descend_extend)]
-fn descend(
-    search: &Search,
-    path: &Path,
-    k: usize,
-    frontier: &Frontier,
-    out: &mut [u8],
-    found: Found,
-) -> Result<Found, Full>
-    requires { Open (decode_all search.now.links.now.trace.now.records.bytes.now) search.now.first
-        search.now.size.events path.now k frontier.now }
-    ensures { Adds (completions (decode_all search.now.links.now.trace.now.records.bytes.now) k
-        (chain_of path.now)) out.old out.new found result }
-{
-    if path.chain.closes(search.links.trace) {
-        return entries::take_pattern(out, path.events(), found);
-    }
-    if k == 0 {
-        return Ok(found);
-    }
-    extend(search, path, k, frontier, out, found)
-}
-
-// Extends a path by at most `left` later events, in the listing's order, and takes each pattern that it
-// finds, until these exceed the room.
-#[cycle(descend_extend)]
-fn extend(
-    search: &Search,
-    path: &Path,
-    left: usize,
-    frontier: &Frontier,
-    out: &mut [u8],
-    found: Found,
-) -> Result<Found, Full>
-    requires { Open (decode_all search.now.links.now.trace.now.records.bytes.now) search.now.first
-        search.now.size.events path.now left frontier.now
-        × (1 ≤ left) }
-    ensures { Adds (extensions (decode_all search.now.links.now.trace.now.records.bytes.now) left
-        (chain_of path.now)) out.old out.new found result }
-{
-    let trace = search.links.trace;
-    let mut grown = Grown::new();
-    let mut chain = path.chain;
-    let mut taken = found;
-    let mut at = chain.first;
-    while let Some(e) = search.links.following(&chain, at) {
-        let met = grown.attempt(trace, &search.back, path, left - 1, frontier, e);
-        chain = chain::exclude(trace.records.bytes, &chain, met, e);
-        at = e;
-        match met {
-            Trial::Success(reached) => {
-                taken = descend(search, &path.with(trace, e), left - 1, &reached, out, taken)?;
-            }
-            _ => {}
+impl<'a> Search<'a> {
+    // Takes what begins with a path that is a deadlock so far: it alone where it is complete, and otherwise what
+    // extends it by at most k events.
+    #[cycle(descend_extend)]
+    fn descend(
+        &self,
+        path: &Path,
+        k: usize,
+        frontier: &Frontier,
+        out: &mut [u8],
+        found: Found,
+    ) -> Result<Found, Full>
+        requires { Open (decode_all self.now.links.now.trace.now.records.bytes.now) self.now.first
+            self.now.size.events path.now k frontier.now }
+        ensures { Adds (completions (decode_all self.now.links.now.trace.now.records.bytes.now) k
+            (chain_of path.now)) out.old out.new found result }
+    {
+        if path.chain.closes(self.links.trace) {
+            return entries::take_pattern(out, path.events(), found);
         }
+        if k == 0 {
+            return Ok(found);
+        }
+        self.extend(path, k, frontier, out, found)
     }
-    Ok(taken)
-}
 
-// Extends the path of the first event alone.
-fn begin(search: &Search, out: &mut [u8], found: Found) -> Result<Found, Full>
-    requires { (1 ≤ search.now.first)
-        × (2 * search.now.first ≤ length search.now.links.now.trace.now.records.bytes.now)
-        × T (is_acquire (decode_all search.now.links.now.trace.now.records.bytes.now) search.now.first) }
-    ensures { Adds
-        (extensions (decode_all search.now.links.now.trace.now.records.bytes.now) (search.now.size.events - 1)
-        (start (signature (decode_all search.now.links.now.trace.now.records.bytes.now)) search.now.first))
-        out.old out.new found result }
-{
-    let trace = search.links.trace;
-    let mut frontier = Frontier::empty();
-    frontier.extend(trace, search.first);
-    let path = Path::start(trace, search.first);
-    extend(search, &path, search.size.events - 1, &frontier, out, found)
+    // Extends a path by at most `left` later events, in the listing's order, and takes each pattern that it
+    // finds, until these exceed the room.
+    #[cycle(descend_extend)]
+    fn extend(
+        &self,
+        path: &Path,
+        left: usize,
+        frontier: &Frontier,
+        out: &mut [u8],
+        found: Found,
+    ) -> Result<Found, Full>
+        requires { Open (decode_all self.now.links.now.trace.now.records.bytes.now) self.now.first
+            self.now.size.events path.now left frontier.now
+            × (1 ≤ left) }
+        ensures { Adds (extensions (decode_all self.now.links.now.trace.now.records.bytes.now) left
+            (chain_of path.now)) out.old out.new found result }
+    {
+        let trace = self.links.trace;
+        let mut grown = Grown::new();
+        let mut chain = path.chain;
+        let mut taken = found;
+        let mut at = chain.first;
+        while let Some(e) = self.links.following(&chain, at) {
+            let met = grown.attempt(trace, &self.back, path, left - 1, frontier, e);
+            chain = chain::exclude(trace.records.bytes, &chain, met, e);
+            at = e;
+            match met {
+                Trial::Success(reached) => {
+                    taken = self.descend(&path.with(trace, e), left - 1, &reached, out, taken)?;
+                }
+                _ => {}
+            }
+        }
+        Ok(taken)
+    }
+
+    // Extends the path of the first event alone.
+    fn begin(&self, out: &mut [u8], found: Found) -> Result<Found, Full>
+        requires { (1 ≤ self.now.first)
+            × (2 * self.now.first ≤ length self.now.links.now.trace.now.records.bytes.now)
+            × T (is_acquire (decode_all self.now.links.now.trace.now.records.bytes.now) self.now.first) }
+        ensures { Adds
+            (extensions (decode_all self.now.links.now.trace.now.records.bytes.now) (self.now.size.events - 1)
+            (start (signature (decode_all self.now.links.now.trace.now.records.bytes.now)) self.now.first))
+            out.old out.new found result }
+    {
+        let trace = self.links.trace;
+        let mut frontier = Frontier::empty();
+        frontier.extend(trace, self.first);
+        let path = Path::start(trace, self.first);
+        self.extend(&path, self.size.events - 1, &frontier, out, found)
+    }
 }
 
 // Takes the patterns that begin with the acquire a, unless its lock cannot lead back to its held locks: by
@@ -136,7 +138,7 @@ fn search_first(
                 size,
                 back,
             };
-            begin(&search, out, found)
+            search.begin(out, found)
         }
     }
 }

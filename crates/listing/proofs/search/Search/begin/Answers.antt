@@ -1,4 +1,4 @@
--- `listing::search::begin` meets its contract: the path of one event is open. Assumes nothing.
+-- `listing::search::Search::begin` meets its contract: the path of one event is open. Assumes nothing.
 use mathlib.Core.Path.{refl}
 use mathlib.Core.List.{[]}
 use native.Mathlib.Omega.{arith}
@@ -8,12 +8,12 @@ use Rattle.laws.proofs.Trace.{record-event}
 use Rattle.laws.proofs.Before.{before-start, before-extend}
 use Rattle.recording.proofs.Accepted.{sound}
 use Rattle.listing.proofs.Paths.{open_start}
-use Rattle.listing.proofs.search.begin.Goals as goal
-use Rattle.listing.proofs.search.begin.Goals.{After-empty-frontier}
+use Rattle.listing.proofs.search.Search.begin.Goals as goal
+use Rattle.listing.proofs.search.Search.begin.Goals.{After-empty-frontier}
 
 -- The frontier of no events.
 start : (c : After-empty-frontier) → let frontier = c.empty-frontier.result in
-    Before (decode_all c.args.search.now.links.now.trace.now.records.bytes.now) [] frontier.front
+    Before (decode_all c.args.self.now.links.now.trace.now.records.bytes.now) [] frontier.front
     frontier.latest
 start c = rw c.empty-frontier.ensures (before-start _ _ _ refl refl)
 
@@ -23,7 +23,7 @@ extend-requires c =
 
 pub extend-requires-2 : goal.extend-requires-2
 extend-requires-2 c =
-    let search = c.args.search.now in
+    let search = c.args.self.now in
     let trace = search.links.now.trace.now in
     let σ = decode_all trace.records.bytes.now in
     let event = record-event trace.records.bytes.now search.first (c.requires.0, c.requires.1) in

@@ -1,4 +1,4 @@
--- `listing::search::+descend_extend` and `listing::search::extend` meet their contracts, by the number of events
+-- `listing::search::Search::descend` and `extend` meet their contracts, by the number of events
 -- that may still follow: the scan has taken what the events so far add. Assumes nothing.
 use Prim.Native.Nat.{ℕ, suc, ◌-◌, ◌*◌, ◌≤◌}
 use mathlib.Core.Path.{◌≡◌}
@@ -13,22 +13,22 @@ use Rattle.chain.proofs.Laws.{remembered, remembered_none, remembered_later, rem
 use Rattle.listing.proofs.Paths.{returning_fewer, open_with}
 use Rattle.listing.proofs.Scans.{scanning-start, scanning_event, scanning_acquire, scanning_adds}
 use Rattle.listing.proofs.Scans.{scanning_drops, scanning_over, scanning-next, scanning_end}
-use Rattle.listing.proofs.search.+descend_extend.Goals as goal
-use Rattle.listing.proofs.search.+descend_extend.Goals.{extend-In-Some}
+use Rattle.listing.proofs.search.Search.+descend_extend.Goals as goal
+use Rattle.listing.proofs.search.Search.+descend_extend.Goals.{extend-In-Some}
 
 -- The event that follows is one of the records, and an acquire.
-event : (t : ℕ) (c : extend-In-Some t) → let b = c.args.search.now.links.now.trace.now.records.bytes.now in
+event : (t : ℕ) (c : extend-In-Some t) → let b = c.args.self.now.links.now.trace.now.records.bytes.now in
     (1 ≤ c.in-Some.e) × (2 * c.in-Some.e ≤ length b) × T (is_acquire (decode_all b) c.in-Some.e)
 event t c =
     let (d, y) = c.in-Some.ensures in
     let (one, low, high) = scanning_event c.loop-e.invariant.scanning d y in
-    let size = decode_all-length c.args.search.now.links.now.trace.now.records.bytes.now in
+    let size = decode_all-length c.args.self.now.links.now.trace.now.records.bytes.now in
     (one, omega arith, scanning_acquire c.loop-e.invariant.scanning d y)
 
 pub descend-closes-requires : goal.descend-closes-requires
 descend-closes-requires t c =
     let z = c.requires.traced in
-    let size = decode_all-length c.args.search.now.links.now.trace.now.records.bytes.now in
+    let size = decode_all-length c.args.self.now.links.now.trace.now.records.bytes.now in
     (z.first_event.0, omega (arith, z.first_event), z.last_event.0, omega (arith, z.last_event), z.acquires)
 
 pub extend-loop-e-init : goal.extend-loop-e-init
@@ -41,7 +41,7 @@ pub extend-following-requires : goal.extend-following-requires
 extend-following-requires t c =
     let o = c.requires.0.traced in
     let z = c.loop-e.invariant.scanning in
-    let size = decode_all-length c.args.search.now.links.now.trace.now.records.bytes.now in (
+    let size = decode_all-length c.args.self.now.links.now.trace.now.records.bytes.now in (
       rw z.same.0 o.last_event.0,
       omega (arith, o.last_event, z.same),
       omega (arith, z.high),
@@ -51,7 +51,7 @@ extend-following-requires t c =
 pub extend-attempt-met-requires : goal.extend-attempt-met-requires
 extend-attempt-met-requires t c =
     let o = c.requires.0 in
-    let search = c.args.search.now in
+    let search = c.args.self.now in
     let (d, y) = c.in-Some.ensures in
     let (low, high, acquires) = event t (goal.at.extend-attempt-met-requires t c).In-Some in (
       rw o.begins (returning_fewer (omega (arith, o.sized, c.requires.1)) search.returning),
@@ -72,7 +72,7 @@ extend-exclude-chain-requires t c =
 pub extend-with-requires : goal.extend-with-requires
 extend-with-requires t c =
     let (low, high, acquires) = event t (goal.at.extend-with-requires t c).In-Some in
-    (omega (arith, c.requires.0.sized, c.requires.1, c.args.search.now.size.permitted), low, high)
+    (omega (arith, c.requires.0.sized, c.requires.1, c.args.self.now.size.permitted), low, high)
 
 pub extend-descend-requires : goal.extend-descend-requires
 extend-descend-requires t c =
