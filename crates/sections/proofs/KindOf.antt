@@ -10,8 +10,9 @@ use native.Mathlib.Omega.{arith}
 use lib.Dec.{T, eqb, eqb→eq, eqb-suc-zero}
 use lib.ListN.{length}
 use borrow.Author.Tests.{eq-eqb, ne_eqb, eqb-true}
-use Rattle.sections.specs.declared.Kind as K
-use Rattle.sections.specs.declared.Kind.TheVariants.{Read, Write, Acquire, Release, Uncounted}
+use Rattle.std.specs.Prelude.{Option, Some, None}
+use Rattle.recording.specs.declared.Op.{Op}
+use Rattle.recording.proofs.Laws.{code_lt, code_apart}
 use Rattle.sections.specs.declared.Section.{Section}
 use Rattle.sections.specs.Kinds.{kind_code, IsKind}
 use Rattle.sections.specs.Kept.{of_lock, depths}
@@ -47,7 +48,7 @@ module _ {σ : Trace} {e op o : ℕ} {table : List Section} (u : Coming σ e op 
   kept_depth = (of_lock table o).depth
 
   -- What its kind is.
-  pub of_kind : (k : K.Kind) → kind_code k ≡ kind σ e → IsKind σ e k
+  pub of_kind : (k : Option Op) → kind_code k ≡ kind σ e → IsKind σ e k
   of_kind k q = record { op_lt = omega (arith, u.op_is); code_is = q }
 
   is_op : op ≡ (at σ e).op
@@ -191,19 +192,9 @@ module _ {σ : Trace} {e op o : ℕ} {table : List Section} (u : Coming σ e op 
 
 -- ---- numbers of kinds
 
--- The kind with a number.
-kind_at : ℕ → K.Kind
-kind_at n =
-    cond (eqb n 0) Read (cond (eqb n 1) Write (cond (eqb n 2) Acquire (cond (eqb n 3) Release Uncounted)))
-
-kind_at_code : (k : K.Kind) → kind_at (kind_code k) ≡ k
-unfolding kind_at
-kind_at_code Read = refl
-kind_at_code Write = refl
-kind_at_code Acquire = refl
-kind_at_code Release = refl
-kind_at_code Uncounted = refl
-
 -- Two kinds have two numbers.
-pub kind_apart : (k l : K.Kind) → k ≢ l → kind_code k ≢ kind_code l
-kind_apart k l d q = d (sym (kind_at_code k) ∙ ap kind_at q ∙ kind_at_code l)
+pub kind_apart : (k l : Option Op) → k ≢ l → kind_code k ≢ kind_code l
+kind_apart (Some o) (Some p) d = code_apart o p (λ q. d (ap Some q))
+kind_apart (Some o) None d = omega (arith, code_lt o)
+kind_apart None (Some p) d = omega (arith, code_lt p)
+kind_apart None None d = absurd (d refl)
