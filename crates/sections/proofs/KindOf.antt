@@ -1,7 +1,7 @@
 -- The kind of one event, of an acquire by its held locks and of a release by the depth of its lock, and the
 -- depths after it. Assumes nothing.
 use Prim.Native.Nat.{ℕ, zero, suc, ◌+◌, ◌-◌, ◌≤◌, ◌<◌}
-use mathlib.Core.Path.{◌≡◌, refl, sym, ap, ◌∙◌}
+use mathlib.Core.Path.{◌≡◌, sym, ◌∙◌}
 use mathlib.Core.Logic.{⊎_elim, ◌≢◌}
 use mathlib.Core.Bool.{true, false, cond, ◌||◌}
 use mathlib.Core.List.{List}
@@ -10,9 +10,8 @@ use native.Mathlib.Omega.{arith}
 use lib.Dec.{T, eqb, eqb→eq, eqb-suc-zero}
 use lib.ListN.{length}
 use borrow.Author.Tests.{eq-eqb, ne_eqb, eqb-true}
-use Rattle.std.specs.Prelude.{Option, Some, None}
+use Rattle.std.specs.Prelude.{Option}
 use Rattle.recording.specs.declared.Op.{Op}
-use Rattle.recording.proofs.Laws.{code_lt, code_apart}
 use Rattle.sections.specs.declared.Section.{Section}
 use Rattle.sections.specs.Kinds.{kind_code, IsKind}
 use Rattle.sections.specs.Kept.{of_lock, depths}
@@ -189,12 +188,3 @@ module _ {σ : Trace} {e op o : ℕ} {table : List Section} (u : Coming σ e op 
       inner_release k =
           ⊎_elim (λ d. absurd (omega (arith, k, (leave_outer d).0))) (λ d. (leave_inner d).1)
           (equal? kept_depth 1)
-
--- ---- numbers of kinds
-
--- Two kinds have two numbers.
-pub kind_apart : (k l : Option Op) → k ≢ l → kind_code k ≢ kind_code l
-kind_apart (Some o) (Some p) d = code_apart o p (λ q. d (ap Some q))
-kind_apart (Some o) None d = omega (arith, code_lt o)
-kind_apart None (Some p) d = omega (arith, code_lt p)
-kind_apart None None d = absurd (d refl)

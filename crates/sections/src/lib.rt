@@ -64,8 +64,9 @@ impl OpenSections {
             Op::Read => Some(Op::Read),
             Op::Write => Some(Op::Write),
             _ if 64 <= l => None,
-            Op::Acquire if !recording::in_mask(self.held_locks(records, e), l as u64) =>
-                Some(Op::Acquire),
+            Op::Acquire if !recording::in_mask(self.held_locks(records, e), l as u64) => Some(
+                Op::Acquire,
+            ),
             Op::Release if self.locks[l].depth == 1 => Some(Op::Release),
             _ => None,
         }
