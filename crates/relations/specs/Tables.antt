@@ -22,6 +22,10 @@ row tables e = record {
   matching = get_or tables.matches e 0;
 }
 
+-- The row of an event of which nothing is noted.
+abbrev pub blank_row : Row
+blank_row = record { held = 0; predecessor = 0; awaited = 0; matching = 0 }
+
 -- The tables with another row of event e.
 abbrev pub with_row : Tables → ℕ → Row → Tables
 with_row tables e r = record {

@@ -15,12 +15,12 @@ ghost use Rattle.laws.specs.EventKinds.{marked};
 ghost use Rattle.laws.specs.Order.{awaited, start_in};
 ghost use Rattle.recording.specs.Asked.{code};
 ghost use Rattle.sections.specs.Kinds.{IsKind};
-ghost use Rattle.relations.specs.Tables.{with_row, IsRow, Tabled, Noted, Walked};
+ghost use Rattle.relations.specs.Tables.{row, blank_row, with_row, IsRow, Tabled, Noted, Walked};
 
 use model::{Question, Refusal, Related};
 use order::{Latest, TaskEvents};
 use recording::{Op, Records};
-use sections::{Kind, OpenSections};
+use sections::OpenSections;
 
 // An accepted recording: its records, and the tables of its events' relations, which lie with the caller.
 #[derive(Clone, Copy)]
@@ -58,8 +58,8 @@ struct Walk {
 }
 
 impl Walk {
-    // The row of event e, of kind k, as far as the events to it show its match.
-    fn row_of(&self, records: &Records, e: usize, k: Kind) -> Row
+    // The row of event e, which counts as k, as far as the events to it show its match.
+    fn row_of(&self, records: &Records, e: usize, k: Option<Op>) -> Row
         requires { (1 ≤ e) × (2 * e ≤ length records.now.bytes.now)
             × IsKind (decode_all records.now.bytes.now) e k
             × Walked (decode_all records.now.bytes.now) e self.now }
@@ -86,16 +86,17 @@ impl Walk {
         self.sections.note(records, e, kind);
         self.latest.note(records, e);
         tables.put(e, &row);
-        match kind {
-            Kind::Release => tables.matches[row.matching as usize] = e as u16,
-            _ => {}
+        if kind == Some(Op::Release) {
+            tables.matches[row.matching as usize] = e as u16;
         }
     }
 }
 
 impl Tables {
     // Room for the tables of a recording, nothing noted yet.
-    pub fn blank() -> Tables {
+    pub fn blank() -> Tables
+        ensures { (e : ℕ) → row result e ≡ blank_row }
+    {
         Tables {
             held: [0; 4096],
             predecessors: [0; 4096],

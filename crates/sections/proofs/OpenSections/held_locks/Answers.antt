@@ -7,4 +7,4 @@ use Rattle.sections.proofs.OpenSections.held_locks.Goals as goal
 pub returns : goal.returns
 returns c =
     let small = c.task.ensures in
-    rw small.1 (locksets-held _ c.args.e _ c.requires.2.lockset (omega (arith, small)))
+    rw small.1 (locksets-held _ c.args.e _ c.requires.2 (omega (arith, small)))

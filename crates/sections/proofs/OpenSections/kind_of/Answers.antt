@@ -10,7 +10,7 @@ use Rattle.laws.proofs.EventKinds.{kind_access}
 use Rattle.recording.proofs.Accepted.{sound}
 use Rattle.recording.specs.declared.Op.TheVariants as Op
 use Rattle.recording.proofs.Laws.{code_lt, code_apart}
-use Rattle.sections.specs.declared.Kind.TheVariants.{Read, Write, Acquire, Release, Uncounted}
+use Rattle.std.specs.Prelude.{Some, None}
 use Rattle.sections.proofs.KindOf.{Coming, of_kind, task_kind, enter_outer, enter_inner, leave_outer}
 use Rattle.sections.proofs.KindOf.{leave_inner}
 use Rattle.sections.proofs.OpenSections.kind_of.Goals as goal
@@ -26,18 +26,18 @@ coming c is small =
       event = record-event r.bytes.now c.args.e (c.requires.0, c.requires.1);
       op_is = (small, is);
       object_is = c.object-l.ensures.1;
-      depths_are = c.requires.2.depth;
+      depths_are = c.requires.2;
     }
 
 pub returns-in-Read : goal.returns-in-Read
 returns-in-Read c =
     let u = coming (goal.at.returns-in-Read c).After-operation c.in-Read.ensures (omega arith) in
-    of_kind u Read (kind_access _ c.args.e c.in-Read.ensures (omega arith))
+    of_kind u (Some Op.Read) (kind_access _ c.args.e c.in-Read.ensures (omega arith))
 
 pub returns-in-Write : goal.returns-in-Write
 returns-in-Write c =
     let u = coming (goal.at.returns-in-Write c).After-operation c.in-Write.ensures (omega arith) in
-    of_kind u Write (kind_access _ c.args.e c.in-Write.ensures (omega arith))
+    of_kind u (Some Op.Write) (kind_access _ c.args.e c.in-Write.ensures (omega arith))
 
 pub returns-in_default : goal.returns-in_default
 returns-in_default c =
@@ -45,26 +45,26 @@ returns-in_default c =
     let u = coming (goal.at.returns-in_default c).After-operation c.operation.ensures (code_lt k) in
     let a = code_apart k Op.Read c.in_default.not-Read in
     let b = code_apart k Op.Write c.in_default.not-Write in
-    of_kind u Uncounted (task_kind u (omega arith) c.if-l-ge64.true)
+    of_kind u None (task_kind u (omega arith) c.if-l-ge64.true)
 
 pub returns-in-Acquire : goal.returns-in-Acquire
 returns-in-Acquire c =
     let u = coming (goal.at.returns-in-Acquire c).After-operation c.in-Acquire.ensures (omega arith) in
-    of_kind u Acquire (enter_outer u c.if-l-ge64.false refl
+    of_kind u (Some Op.Acquire) (enter_outer u c.if-l-ge64.false refl
     (rw c.held_locks.ensures at (sym c.in_mask.ensures ∙ c.if-not-in_mask.true))).0
 
 pub returns-in_default-2 : goal.returns-in_default-2
 returns-in_default-2 c =
     let u = coming (goal.at.returns-in_default-2 c).After-operation c.in-Acquire.ensures (omega arith) in
-    of_kind u Uncounted (enter_inner u c.if-l-ge64.false refl
+    of_kind u None (enter_inner u c.if-l-ge64.false refl
     (rw c.held_locks.ensures at (sym c.in_mask.ensures ∙ c.if-not-in_mask.false))).0
 
 pub returns-in-Release : goal.returns-in-Release
 returns-in-Release c =
     let u = coming (goal.at.returns-in-Release c).After-operation c.in-Release.ensures (omega arith) in
-    of_kind u Release (leave_outer u c.if-l-ge64.false refl c.if-self-l-eq1.true).0
+    of_kind u (Some Op.Release) (leave_outer u c.if-l-ge64.false refl c.if-self-l-eq1.true).0
 
 pub returns-in_default-2-2 : goal.returns-in_default-2-2
 returns-in_default-2-2 c =
     let u = coming (goal.at.returns-in_default-2-2 c).After-operation c.in-Release.ensures (omega arith) in
-    of_kind u Uncounted (leave_inner u c.if-l-ge64.false refl c.if-self-l-eq1.false).0
+    of_kind u None (leave_inner u c.if-l-ge64.false refl c.if-self-l-eq1.false).0
