@@ -59,21 +59,19 @@ impl OpenSections {
             × Locksets (decode_all records.now.bytes.now) e self.now.locksets }
         ensures { IsKind (decode_all records.now.bytes.now) e result }
     {
+        let op = recording::operation(records.bytes, e);
         let l = recording::object(records.bytes, e) as usize;
-        match recording::operation(records.bytes, e) {
-            Op::Read => Some(Op::Read),
-            Op::Write => Some(Op::Write),
+        match op {
+            Op::Read | Op::Write => Some(op),
             _ if 64 <= l => None,
-            Op::Acquire if !recording::in_mask(self.held_locks(records, e), l as u64) => Some(
-                Op::Acquire,
-            ),
-            Op::Release if self.locks[l].depth == 1 => Some(Op::Release),
+            Op::Acquire if !recording::in_mask(self.held_locks(records, e), l as u64) => Some(op),
+            Op::Release if self.locks[l].depth == 1 => Some(op),
             _ => None,
         }
     }
 
-    // The match of event e, which counts as k, as far as the events to it show: of an outer release the latest
-    // outer acquire of its lock; an inner event, a start or a join has its own number.
+    // The match of event e, which counts as k, as far as the events to it show: of an outer release the
+    // latest outer acquire of its lock; an inner event, a start or a join has its own number.
     pub fn match_of(&self, records: &Records, e: usize, k: Option<Op>) -> u16
         requires { (1 ≤ e) × (2 * e ≤ length records.now.bytes.now)
             × IsKind (decode_all records.now.bytes.now) e k

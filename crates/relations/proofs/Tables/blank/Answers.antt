@@ -10,7 +10,8 @@ use Rattle.relations.proofs.Tables.blank.Goals as goal
 -- An array of zeros has no other entry.
 zeros : (n e : ℕ) → get_or {A = ℕ} (replicate n 0) e 0 ≡ 0
 zeros n e =
-    ⊎_elim (λ (p : n ≤ e). get_or-eq_default (replicate n 0) 0 (omega (arith, p, length-replicate {A = ℕ} n 0)))
+    ⊎_elim
+    (λ (p : n ≤ e). get_or-eq_default (replicate n 0) 0 (omega (arith, p, length-replicate {A = ℕ} n 0)))
     (λ (l : e < n). get_or-replicate {A = ℕ} n e 0 0 l)
     (at-most? n e)
 
