@@ -97,15 +97,16 @@ module _ {σ : Trace} {k : ℕ} {c : Chain} {x : Kept} {at : ℕ} {out₀ out : 
 
     module _ {met : Trial} {old new : Grown} (t : Attempted σ k c e met old new) where
       -- Attempted with success, it adds what begins with the longer chain,
-      pub scanning_adds : {reached : Frontier} → met ≡ Success reached → (c' : Chain) → c' ≡ add (signature σ) c e → {out' : List ℕ}
-          → {r : Result Found Full} → Adds (completions σ k c') out out' f r
+      pub scanning_adds : {reached : Frontier} → met ≡ Success reached → (c' : Chain)
+          → c' ≡ add (signature σ) c e → {out' : List ℕ} → {r : Result Found Full} → Adds (completions σ k c') out out' f r
           → Adds (branch σ k c e) out out' f r
       scanning_adds {reached} s c' is {out'} {r} =
           subst (λ (ps : List (List ℕ)). Adds ps out out' f r)
           (ap (completions σ k) is ∙ sym (branch_deadlock σ k c e scanning-fits (t.deadlock reached s)))
 
       -- and otherwise nothing.
-      pub scanning_drops : ((f : Frontier) → met ≢ Success f) → Rooted σ c → Adds (branch σ k c e) out out f (Ok f)
+      pub scanning_drops : ((f : Frontier) → met ≢ Success f) → Rooted σ c
+          → Adds (branch σ k c e) out out f (Ok f)
       scanning_drops n rooted = rw (t.dropped n c (along_itself rooted)) (adds_none out f)
 
     module _ {out' : List ℕ} {r : Result Found Full} (a : Adds (branch σ k c e) out out' f r) where

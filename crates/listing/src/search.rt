@@ -29,8 +29,8 @@ struct Search<'a> {
 }
 
 impl<'a> Search<'a> {
-    // Takes what begins with a path that is a deadlock so far: it alone where it is complete, and otherwise what
-    // extends it by at most k events.
+    // Takes what begins with a path that is a deadlock so far: it alone where it is complete, and otherwise
+    // what extends it by at most k events.
     #[cycle(descend_extend)]
     fn descend(
         &self,

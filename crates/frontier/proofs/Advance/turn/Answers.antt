@@ -71,7 +71,8 @@ returns c =
     let t = c.args.t in
     let records = c.args.trace.now.records in
     let k = c.loop-f.invariant in
-    let front = ap (λ (a : Advance). set a.frontier.front t (get_or old.want t 0)) c.begin-end.ensures.wanted in
+    let front = ap (λ (a : Advance). set a.frontier.front t (get_or old.want t 0))
+    c.begin-end.ensures.wanted in
     rw k.front_is
     (turning_end _ (sound records) old.frontier.front
     (begun (goal.at.returns c).After-begin-end) k.turning c.loop-f-test.false front)

@@ -1,4 +1,5 @@
--- `frontier::Frontier::extend` meets its contract: with the predecessor wanted, the frontier advances. Assumes nothing.
+-- `frontier::Frontier::extend` meets its contract: with the predecessor wanted, the frontier advances.
+-- Assumes nothing.
 use Prim.Native.Nat.{◌≤◌}
 use mathlib.Core.Path.{◌≡◌, refl}
 use native.Mathlib.Omega.{arith}

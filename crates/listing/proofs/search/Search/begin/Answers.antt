@@ -27,8 +27,8 @@ extend-requires-2 c =
     let trace = search.links.now.trace.now in
     let σ = decode_all trace.records.bytes.now in
     let event = record-event trace.records.bytes.now search.first (c.requires.0, c.requires.1) in
-    let before = before-extend σ (sound trace.records) [] _ _
-    search.first _ _ (start (goal.at.extend-requires-2 c).After-empty-frontier) event.0 event.1 c.extend.ensures in (
+    let before = before-extend σ (sound trace.records) [] _ _ search.first _ _
+    (start (goal.at.extend-requires-2 c).After-empty-frontier) event.0 event.1 c.extend.ensures in (
       open_start σ search.first search.size.events _ _ event.0 event.1 c.requires.2 search.size.permitted.0
           c.start-path.ensures.len c.start-path.ensures.chain before,
       omega (arith, search.size.permitted),

@@ -1,4 +1,5 @@
--- `listing::size::SizeTryFromU64::try_from` meets its contract: each return cites the law of its case. Assumes nothing.
+-- `listing::size::SizeTryFromU64::try_from` meets its contract: each return cites the law of its case.
+-- Assumes nothing.
 use native.Mathlib.Omega.{arith}
 use Rattle.listing.proofs.Answers.{size_default, size_low, size_high, size_itself}
 use Rattle.listing.proofs.size.SizeTryFromU64.try_from.Goals as goal
