@@ -98,7 +98,8 @@ module _ {σ : Trace} {k : ℕ} {c : Chain} {x : Kept} {at : ℕ} {out₀ out : 
     module _ {met : Trial} {old new : Grown} (t : Attempted σ k c e met old new) where
       -- Attempted with success, it adds what begins with the longer chain,
       pub scanning_adds : {reached : Frontier} → met ≡ Success reached → (c' : Chain)
-          → c' ≡ add (signature σ) c e → {out' : List ℕ} → {r : Result Found Full} → Adds (completions σ k c') out out' f r
+          → c' ≡ add (signature σ) c e → {out' : List ℕ} → {r : Result Found Full}
+          → Adds (completions σ k c') out out' f r
           → Adds (branch σ k c e) out out' f r
       scanning_adds {reached} s c' is {out'} {r} =
           subst (λ (ps : List (List ℕ)). Adds ps out out' f r)

@@ -45,20 +45,20 @@ rematched z q = record {
 }
 
 -- The arrays of the tables have an entry for each event.
-pub record Long (tables : Tables) : Type 0 where
-  pub held_long : length tables.held ≡ 4096
-  pub predecessors_long : length tables.predecessors ≡ 4096
-  pub awaited_long : length tables.awaited ≡ 4096
-  pub matches_long : length tables.matches ≡ 4096
+pub record Lengths (tables : Tables) : Type 0 where
+  pub held : length tables.held ≡ 4096
+  pub predecessors : length tables.predecessors ≡ 4096
+  pub awaited : length tables.awaited ≡ 4096
+  pub matches : length tables.matches ≡ 4096
 
-module _ {tables : Tables} (z : Long tables) where
+module _ {tables : Tables} (z : Lengths tables) where
   row_same : {e : ℕ} → e < 4096 → (r : Row) → row (with_row tables e r) e ≡ r
   row_same {e} l r =
       rw (
-        get_or-set_same tables.held e r.held 0 (omega (arith, z.held_long)),
-        get_or-set_same tables.predecessors e r.predecessor 0 (omega (arith, z.predecessors_long)),
-        get_or-set_same tables.awaited e r.awaited 0 (omega (arith, z.awaited_long)),
-        get_or-set_same tables.matches e r.matching 0 (omega (arith, z.matches_long)),
+        get_or-set_same tables.held e r.held 0 (omega (arith, z.held)),
+        get_or-set_same tables.predecessors e r.predecessor 0 (omega (arith, z.predecessors)),
+        get_or-set_same tables.awaited e r.awaited 0 (omega (arith, z.awaited)),
+        get_or-set_same tables.matches e r.matching 0 (omega (arith, z.matches)),
       ) refl
 
 row_other : (tables : Tables) (e f : ℕ) (r : Row) → f ≢ e → row (with_row tables e r) f ≡ row tables f
@@ -70,7 +70,7 @@ row_other tables e f r d =
       get_or-set_other tables.matches e f r.matching 0 d,
     ) refl
 
-module _ {σ : Trace} {e : ℕ} {tables : Tables} (z : Noted σ e tables) (long : Long tables) (l : e < 4096)
+module _ {σ : Trace} {e : ℕ} {tables : Tables} (z : Noted σ e tables) (long : Lengths tables) (l : e < 4096)
     {r : Row} (n : IsRow σ (e + 1) e r) where
   -- Once event e has its row, the row of an event whose match it leaves is right.
   row_left : (f : ℕ) → 1 ≤ f → f < e + 1 → (f < e → marked_before σ (suc e) f ≡ marked_before σ e f)
@@ -116,7 +116,7 @@ module _ {σ : Trace} {e : ℕ} {tables : Tables} (z : Noted σ e tables) (long 
             get_or-set_other tables.predecessors e r.matching r.predecessor 0 apart,
             get_or-set_other tables.awaited e r.matching r.awaited 0 apart,
             get_or-set_same (set tables.matches e r.matching) r.matching e 0
-                (omega (arith, opened, length-set tables.matches e r.matching, long.matches_long)),
+                (omega (arith, opened, length-set tables.matches e r.matching, long.matches)),
           )
           (rematched old (rw (add-one e) (sym (marked_opened σ ok e i t latest))))
 

@@ -17,20 +17,20 @@ use Rattle.recording.specs.declared.Op.TheVariants.{Read, Write, Acquire, Releas
 use Rattle.recording.specs.contracts.OpPartialEq.TheImpl.{eq-value}
 use Rattle.sections.specs.Kinds.{kind_code}
 use Rattle.relations.specs.Tables.{Noted}
-use Rattle.relations.proofs.Rows.{Long, row_noted, release_noted}
+use Rattle.relations.proofs.Rows.{Lengths, row_noted, release_noted}
 use Rattle.relations.proofs.Walk.note.Goals as goal
 use Rattle.relations.proofs.Walk.note.Goals.{After-put}
 
 -- What is noted of the earlier events, with an entry for each event.
 kept : (c : goal.After-put) → Noted (decode_all c.args.records.now.bytes.now) c.args.e c.args.tables.now
-    × Long c.args.tables.now × (c.args.e < 4096)
+    × Lengths c.args.tables.now × (c.args.e < 4096)
 kept c = (
   c.requires.3,
   record {
-    held_long = search rules;
-    predecessors_long = search rules;
-    awaited_long = search rules;
-    matches_long = search rules;
+    held = search rules;
+    predecessors = search rules;
+    awaited = search rules;
+    matches = search rules;
   },
   omega (arith, c.requires.1, c.args.records.now.short),
 )
