@@ -20,7 +20,7 @@ ghost use Rattle.relations.specs.Tables.{row, blank_row, with_row, IsRow, Tabled
 use model::{Question, Refusal, Related};
 use order::{Latest, TaskEvents};
 use recording::{Op, Records};
-use sections::OpenSections;
+use sections::{Kind, OpenSections};
 
 // An accepted recording: its records, and the tables of its events' relations, which lie with the caller.
 #[derive(Clone, Copy)]
@@ -58,8 +58,8 @@ struct Walk {
 }
 
 impl Walk {
-    // The row of event e, which counts as k, as far as the events to it show its match.
-    fn row_of(&self, records: &Records, e: usize, k: Option<Op>) -> Row
+    // The row of event e, of kind k, as far as the events to it show its match.
+    fn row_of(&self, records: &Records, e: usize, k: Kind) -> Row
         requires { (1 ≤ e) × (2 * e ≤ length records.now.bytes.now)
             × IsKind (decode_all records.now.bytes.now) e k
             × Walked (decode_all records.now.bytes.now) e self.now }
@@ -86,8 +86,9 @@ impl Walk {
         self.sections.note(records, e, kind);
         self.latest.note(records, e);
         tables.put(e, &row);
-        if kind == Some(Op::Release) {
-            tables.matches[row.matching as usize] = e as u16;
+        match kind {
+            Kind::Release => tables.matches[row.matching as usize] = e as u16,
+            _ => {}
         }
     }
 }

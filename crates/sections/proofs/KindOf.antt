@@ -1,7 +1,7 @@
 -- The kind of one event, of an acquire by its held locks and of a release by the depth of its lock, and the
 -- depths after it. Assumes nothing.
 use Prim.Native.Nat.{ℕ, zero, suc, ◌+◌, ◌-◌, ◌≤◌, ◌<◌}
-use mathlib.Core.Path.{◌≡◌, sym, ◌∙◌}
+use mathlib.Core.Path.{◌≡◌, refl, sym, ap, ◌∙◌}
 use mathlib.Core.Logic.{⊎_elim, ◌≢◌}
 use mathlib.Core.Bool.{true, false, cond, ◌||◌}
 use mathlib.Core.List.{List}
@@ -10,8 +10,8 @@ use native.Mathlib.Omega.{arith}
 use lib.Dec.{T, eqb, eqb→eq, eqb-suc-zero}
 use lib.ListN.{length}
 use borrow.Author.Tests.{eq-eqb, ne_eqb, eqb-true}
-use Rattle.std.specs.Prelude.{Option}
-use Rattle.recording.specs.declared.Op.{Op}
+use Rattle.sections.specs.declared.Kind as K
+use Rattle.sections.specs.declared.Kind.TheVariants.{Read, Write, Acquire, Release, Uncounted}
 use Rattle.sections.specs.declared.Section.{Section}
 use Rattle.sections.specs.Kinds.{kind_code, IsKind}
 use Rattle.sections.specs.Kept.{of_lock, depths}
@@ -47,7 +47,7 @@ module _ {σ : Trace} {e op o : ℕ} {table : List Section} (u : Coming σ e op 
   kept_depth = (of_lock table o).depth
 
   -- What its kind is.
-  pub of_kind : (k : Option Op) → kind_code k ≡ kind σ e → IsKind σ e k
+  pub of_kind : (k : K.Kind) → kind_code k ≡ kind σ e → IsKind σ e k
   of_kind k q = record { op_lt = omega (arith, u.op_is); code_is = q }
 
   is_op : op ≡ (at σ e).op
@@ -188,3 +188,22 @@ module _ {σ : Trace} {e op o : ℕ} {table : List Section} (u : Coming σ e op 
       inner_release k =
           ⊎_elim (λ d. absurd (omega (arith, k, (leave_outer d).0))) (λ d. (leave_inner d).1)
           (equal? kept_depth 1)
+
+-- ---- numbers of kinds
+
+-- The kind with a number.
+kind_at : ℕ → K.Kind
+kind_at n =
+    cond (eqb n 0) Read (cond (eqb n 1) Write (cond (eqb n 2) Acquire (cond (eqb n 3) Release Uncounted)))
+
+kind_at_code : (k : K.Kind) → kind_at (kind_code k) ≡ k
+unfolding kind_at
+kind_at_code Read = refl
+kind_at_code Write = refl
+kind_at_code Acquire = refl
+kind_at_code Release = refl
+kind_at_code Uncounted = refl
+
+-- Two kinds have two numbers.
+pub kind_apart : (k l : K.Kind) → k ≢ l → kind_code k ≢ kind_code l
+kind_apart k l d q = d (sym (kind_at_code k) ∙ ap kind_at q ∙ kind_at_code l)

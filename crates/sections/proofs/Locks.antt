@@ -10,7 +10,6 @@ use lib.Bits.{bit_or, bit_xor}
 use lib.Dec.{T, eqb}
 use lib.ListN.{length, get_or, set, length-map}
 use borrow.Author.Tests.{eq-eqb, ne_eqb}
-use Rattle.std.specs.Prelude.{Option}
 use Rattle.model.specs.Lists.{last_before}
 use Rattle.model.specs.Trace.{Trace, tasks, locks, variables, at, task, object, is_acquire, is_release}
 use Rattle.model.specs.Recording.{decode_all}
@@ -25,8 +24,8 @@ use Rattle.laws.proofs.WellFormed.{WellFormed, release-held}
 use Rattle.laws.proofs.OpenAcquires.{opened_acquire}
 use Rattle.laws.proofs.Matches.{marked_new, marked_release}
 use Rattle.recording.proofs.Accepted.{sound}
-use Rattle.recording.specs.declared.Op.{Op}
 use Rattle.recording.specs.declared.Records.{Records}
+use Rattle.sections.specs.declared.Kind as K
 use Rattle.sections.specs.declared.Section.{Section}
 use Rattle.sections.specs.declared.OpenSections.{OpenSections}
 use Rattle.sections.specs.Kinds.{kind_code, IsKind}
@@ -35,14 +34,14 @@ use Rattle.sections.proofs.Fields.{with_acquire, acquire_set, depth_left, acquir
 use Rattle.sections.proofs.KindOf.{Coming, access_depths, outer_acquire, outer_release}
 
 -- Event e of a well-formed trace, with its kind, and what is kept before it.
-pub record OfKind (σ : Trace) (e : ℕ) (k : Option Op) (sections : OpenSections) : Type 0 where
+pub record OfKind (σ : Trace) (e : ℕ) (k : K.Kind) (sections : OpenSections) : Type 0 where
   pub sound : WellFormed σ
   pub event : (1 ≤ e) × (e ≤ length σ)
   pub kind_is : IsKind σ e k
   pub before : OpenBefore σ e sections
 
 -- An event of accepted records is one.
-pub of_accepted : (r : Records) {e : ℕ} {k : Option Op} {sections : OpenSections}
+pub of_accepted : (r : Records) {e : ℕ} {k : K.Kind} {sections : OpenSections}
     → (1 ≤ e) × (2 * e ≤ length r.bytes.now) × IsKind (decode_all r.bytes.now) e k
     × OpenBefore (decode_all r.bytes.now) e sections
     → OfKind (decode_all r.bytes.now) e k sections
@@ -53,7 +52,7 @@ of_accepted r (first, last, kind, kept) = record {
   before = kept;
 }
 
-module _ {σ : Trace} {e : ℕ} {k : Option Op} {sections : OpenSections} (u : OfKind σ e k sections) where
+module _ {σ : Trace} {e : ℕ} {k : K.Kind} {sections : OpenSections} (u : OfKind σ e k sections) where
   acquires_long : length (acquires sections.locks) ≡ locks
   acquires_long = length-map sections.locks _ ∙ sym (length-map sections.locks _) ∙ u.before.depth.long
 

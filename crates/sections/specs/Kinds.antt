@@ -1,16 +1,19 @@
--- What an event counts as, and its number.
-use Rattle.std.specs.Prelude.{ℕ, ◌<◌, ◌≡◌, Option, Some, None}
+-- An event's kinds and their numbers.
+use Rattle.std.specs.Prelude.{ℕ, ◌<◌, ◌≡◌}
 use Rattle.model.specs.Trace.{Trace, at}
 use Rattle.laws.specs.EventKinds.{kind}
-use Rattle.recording.specs.declared.Op.{Op}
-use Rattle.recording.specs.Asked.{code}
+use Rattle.sections.specs.declared.Kind.{Kind}
+use Rattle.sections.specs.declared.Kind.TheVariants.{Read, Write, Acquire, Release, Uncounted}
 
--- The number of what an event counts as: its operation's, and 4 for a record that does not count.
-abbrev pub kind_code : Option Op → ℕ
-kind_code (Some o) = code o
-kind_code None = 4
+-- The number of a kind: its operation's, and 4 for a record that does not count.
+abbrev pub kind_code : Kind → ℕ
+kind_code Read = 0
+kind_code Write = 1
+kind_code Acquire = 2
+kind_code Release = 3
+kind_code Uncounted = 4
 
--- Event e has an operation and counts as k.
-pub record IsKind (σ : Trace) (e : ℕ) (k : Option Op) : Type 0 where
+-- Event e has an operation and is of kind k.
+pub record IsKind (σ : Trace) (e : ℕ) (k : Kind) : Type 0 where
   pub op_lt : (at σ e).op < 4
   pub code_is : kind_code k ≡ kind σ e

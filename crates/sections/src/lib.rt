@@ -2,15 +2,27 @@
 // outer one, and its match, off what is kept of the earlier events; and what is kept once the event is noted.
 #![tactic(auto)]
 
-ghost use Rattle.std.specs.Prelude.{◌+◌, ◌*◌, ◌<◌, ◌≤◌, ◌≡◌, None, cond, eqb, length};
+ghost use Rattle.std.specs.Prelude.{◌+◌, ◌*◌, ◌<◌, ◌≤◌, ◌≡◌, cond, eqb, length};
 ghost use Rattle.model.specs.Trace.{Trace};
 ghost use Rattle.model.specs.Recording.{decode_all};
 ghost use Rattle.model.specs.Relations.{held};
 ghost use Rattle.laws.specs.Walked.{KeptDepths, Locksets, marked_before};
+ghost use Rattle.sections.specs.declared.Kind.TheVariants.{Uncounted};
 ghost use Rattle.sections.specs.Kinds.{IsKind};
 ghost use Rattle.sections.specs.Kept.{depths, OpenBefore};
 
 use recording::{Op, Records};
+
+// What an event counts as: its operation, unless it is the record of an acquire or a release that is no outer
+// one.
+#[derive(Clone, Copy, Debug, PartialEq, Eq, Hash)]
+pub enum Kind {
+    Read,
+    Write,
+    Acquire,
+    Release,
+    Uncounted,
+}
 
 // Of a lock its depth, or 1 where it has none, and its latest outer acquire, or 0.
 #[derive(Clone, Copy)]
@@ -50,46 +62,44 @@ impl OpenSections {
         self.locksets[recording::task(records.bytes, e) as usize]
     }
 
-    // What event e counts as: its operation, unless it is the record of an acquire or a release that is no
-    // outer one: of a start, a join, an inner acquire, whose lock is among its held locks, or an inner
-    // release, whose lock is at a depth above 1.
-    pub fn kind_of(&self, records: &Records, e: usize) -> Option<Op>
+    // The kind of event e: a start, a join, an inner acquire, whose lock is among its held locks, and an
+    // inner release, whose lock is at a depth above 1, do not count.
+    pub fn kind_of(&self, records: &Records, e: usize) -> Kind
         requires { (1 ≤ e) × (2 * e ≤ length records.now.bytes.now)
             × KeptDepths (decode_all records.now.bytes.now) e (depths self.now.locks)
             × Locksets (decode_all records.now.bytes.now) e self.now.locksets }
         ensures { IsKind (decode_all records.now.bytes.now) e result }
     {
-        let op = recording::operation(records.bytes, e);
         let l = recording::object(records.bytes, e) as usize;
-        match op {
-            Op::Read | Op::Write => Some(op),
-            _ if 64 <= l => None,
-            Op::Acquire if !recording::in_mask(self.held_locks(records, e), l as u64) => Some(op),
-            Op::Release if self.locks[l].depth == 1 => Some(op),
-            _ => None,
+        match recording::operation(records.bytes, e) {
+            Op::Read => Kind::Read,
+            Op::Write => Kind::Write,
+            _ if 64 <= l => Kind::Uncounted,
+            Op::Acquire if !recording::in_mask(self.held_locks(records, e), l as u64) =>
+                Kind::Acquire,
+            Op::Release if self.locks[l].depth == 1 => Kind::Release,
+            _ => Kind::Uncounted,
         }
     }
 
-    // The match of event e, which counts as k, as far as the events to it show: of an outer release the
-    // latest outer acquire of its lock; an inner event, a start or a join has its own number.
-    pub fn match_of(&self, records: &Records, e: usize, k: Option<Op>) -> u16
+    // The match of event e, of kind k, as far as the events to it show: of an outer release the latest outer
+    // acquire of its lock; an inner event, a start or a join has its own number.
+    pub fn match_of(&self, records: &Records, e: usize, k: Kind) -> u16
         requires { (1 ≤ e) × (2 * e ≤ length records.now.bytes.now)
             × IsKind (decode_all records.now.bytes.now) e k
             × OpenBefore (decode_all records.now.bytes.now) e self.now }
         ensures { (result ≤ e) × (result ≡ marked_before (decode_all records.now.bytes.now) (e + 1) e) }
     {
-        let Some(op) = k else {
-            return e as u16;
-        };
-        match op {
-            Op::Release => self.locks[recording::object(records.bytes, e) as usize].acquire,
+        match k {
+            Kind::Release => self.locks[recording::object(records.bytes, e) as usize].acquire,
+            Kind::Uncounted => e as u16,
             _ => 0,
         }
     }
 
-    // Notes event e, which counts as k: an outer acquire opens a section, which an outer release closes, and
-    // an inner one changes its lock's depth.
-    pub fn note(&mut self, records: &Records, e: usize, k: Option<Op>)
+    // Notes event e, of kind k: an outer acquire opens a section, which an outer release closes, and an inner
+    // one changes its lock's depth.
+    pub fn note(&mut self, records: &Records, e: usize, k: Kind)
         requires { (1 ≤ e) × (2 * e ≤ length records.now.bytes.now)
             × IsKind (decode_all records.now.bytes.now) e k
             × OpenBefore (decode_all records.now.bytes.now) e self.old }
@@ -97,15 +107,13 @@ impl OpenSections {
     {
         let t = recording::task(records.bytes, e) as usize;
         let l = recording::object(records.bytes, e) as usize;
-        let Some(op) = k else {
-            return self.note_depth(records, e);
-        };
-        match op {
-            Op::Acquire => {
+        match k {
+            Kind::Acquire => {
                 self.locksets[t] |= 1 << l;
                 self.locks[l].acquire = e as u16;
             }
-            Op::Release => self.locksets[t] ^= 1 << l,
+            Kind::Release => self.locksets[t] ^= 1 << l,
+            Kind::Uncounted => self.note_depth(records, e),
             _ => {}
         }
     }
@@ -114,7 +122,7 @@ impl OpenSections {
     // up, and a start or a join leaves all as it is.
     fn note_depth(&mut self, records: &Records, e: usize)
         requires { (1 ≤ e) × (2 * e ≤ length records.now.bytes.now)
-            × IsKind (decode_all records.now.bytes.now) e None
+            × IsKind (decode_all records.now.bytes.now) e Uncounted
             × OpenBefore (decode_all records.now.bytes.now) e self.old }
         ensures { OpenBefore (decode_all records.now.bytes.now) (e + 1) self.new }
     {
