@@ -104,10 +104,11 @@ module _ {σ : Trace} {e : ℕ} {k : K.Kind} (u : OfKind σ e k) where
     release_match table long z a =
         let t : T (is_release σ e) = rw (release a) tt in
         let b = release_lock a in
+        let size = length-map table (λ (s : Section). s.acquire) in
         let latest : (of_lock table l).acquire
         ≡ last_before e (λ f. is_acquire σ f && eqb (object σ e) (object σ f)) =
         rw (← (acquire_at table l), is-object.1)
-        (z.at (object σ e) (omega (arith, is-object, b, long, length-map table (λ (s : Section). s.acquire)))) in
+        (z.at (object σ e) (omega (arith, is-object, b, long, size))) in
         let opened = opened_acquire σ u.sound e u.event t in (
           rw latest (omega (arith, opened.1)),
           rw (add-one e) (marked_release σ u.sound e u.event t latest),
