@@ -16,5 +16,5 @@ returns c =
     let lo = get_or a.records.now (2 * (a.e - 1) + 1) 0 in
     let small : lo < 256 = omega (arith, c.type_inv.records (2 * (a.e - 1) + 1)) in
     let is : bit_or (bit_and hi 3 * 256 % 65536) lo ≡ hi % 4 * 256 + lo =
-        rw (and_mask hi 2) (or_after_shift (hi % 4) 256 65536 lo refl small (omega arith)) in
+    rw (and_mask hi 2) (or_after_shift (hi % 4) 256 65536 lo refl small (omega arith)) in
     (omega (arith, is), is ∙ record-object a.records.now a.e p.0 p.1)
