@@ -1,4 +1,6 @@
 // What a word spells: bytes in lowercase hexadecimal, or a decimal number.
+ghost use Rattle.std.specs.Prelude.{◌*◌, ◌≤◌, length, IfOk};
+
 use hex::FromHexError;
 use std::alloc::{AllocError, Global};
 use std::num::ParseIntError;
@@ -38,7 +40,9 @@ impl From<FromHexError> for Fault {
 }
 
 // The bytes that a word spells: pairs of lowercase digits spell one each, and `-` none.
-pub fn decode_bytes(alloc: Global, word: &str) -> Result<Vec<u8>, Fault> {
+pub fn decode_bytes(alloc: Global, word: &str) -> Result<Vec<u8>, Fault>
+    ensures { IfOk result (λ bytes. 2 * length bytes.items ≤ length word.now) }
+{
     if word == "-" {
         return Ok(Vec::new(alloc));
     }
