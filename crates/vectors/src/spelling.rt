@@ -1,7 +1,6 @@
 // What a word spells: bytes in lowercase hexadecimal, or a decimal number.
-ghost use Rattle.std.specs.Prelude.{◌*◌, ◌≤◌, length, IfOk};
+ghost use Rattle.std.specs.Prelude.{◌*◌, ◌<◌, ◌≤◌, length, IfOk};
 
-use hex::FromHexError;
 use std::alloc::{AllocError, Global};
 use std::num::ParseIntError;
 use std::str::Utf8Error;
@@ -33,9 +32,14 @@ impl From<ParseIntError> for Fault {
     }
 }
 
-impl From<FromHexError> for Fault {
-    fn from(_: FromHexError) -> Fault {
-        Fault::BadRequest
+// The value of a lowercase hexadecimal digit.
+fn digit(character: u8) -> Result<u8, Fault>
+    ensures { IfOk result (λ d. d < 16) }
+{
+    match character {
+        b'0'..=b'9' => Ok(character - b'0'),
+        b'a'..=b'f' => Ok(character - b'a' + 10),
+        _ => Err(Fault::BadRequest),
     }
 }
 
@@ -46,11 +50,14 @@ pub fn decode_bytes(alloc: Global, word: &str) -> Result<Vec<u8>, Fault>
     if word == "-" {
         return Ok(Vec::new(alloc));
     }
-    if word.is_empty() || word.bytes().any(|digit| digit.is_ascii_uppercase()) {
+    let (pairs, rest) = word.as_bytes().as_chunks::<2>();
+    if pairs.is_empty() || !rest.is_empty() {
         return Err(Fault::BadRequest);
     }
-    let mut bytes = vec![in alloc; 0; word.len() / 2]?;
-    hex::decode_to_slice(word, &mut bytes)?;
+    let mut bytes = vec![in alloc; 0; pairs.len()]?;
+    for (byte, [high, low]) in bytes.iter_mut().zip(pairs) {
+        *byte = 16 * digit(*high)? + digit(*low)?;
+    }
     Ok(bytes)
 }
 

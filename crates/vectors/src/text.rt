@@ -8,14 +8,14 @@ use std::alloc::{AllocError, Global};
 fn put_first(text: &mut String, number: u64) -> Result<(), AllocError>
     ensures { OnOk result (length (string_bytes text.new) ≤ length (string_bytes text.old) + 20) }
 {
-    printing::push_decimal(text, number)
+    write!(text, "{number}")
 }
 
 // Puts a space and a number.
 fn put_next(text: &mut String, number: u64) -> Result<(), AllocError>
     ensures { OnOk result (length (string_bytes text.new) ≤ length (string_bytes text.old) + 21) }
 {
-    printing::push_spaced(text, number)
+    write!(text, " {number}")
 }
 
 // Puts numbers, with a space between them.

@@ -8,6 +8,6 @@ use Rattle.vectors.proofs.text.put_next.Goals as goal
 pub returns : goal.returns
 returns c =
     let before = string_bytes c.args.text.now in
-    let p = c.push_spaced in
-    on_ok_weaker p.result (spaced_within before (string_bytes p.new.text) c.args.number c.ranges.number.fits)
-    p.ensures.ok
+    let p = c.write in
+    on_ok_weaker p.result (spaced_within before (string_bytes p.new.self) c.args.number c.ranges.number.fits)
+    p.ensures.bytes
