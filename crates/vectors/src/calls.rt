@@ -148,11 +148,7 @@ pub fn tell_clist(
 }
 
 // Tells a verdict as a C program gets it.
-pub fn tell_cverdict(
-    recording: &[u8],
-    pattern: &[u8],
-    text: &mut String,
-) -> Result<(), AllocError>
+pub fn tell_cverdict(recording: &[u8], pattern: &[u8], text: &mut String) -> Result<(), AllocError>
     ensures { OnOk result (length (string_bytes text.new) ≤ length (string_bytes text.old) + 150) }
 {
     let number = hidzvoma::hidzvoma_verdict(recording, pattern);
