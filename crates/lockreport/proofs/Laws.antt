@@ -122,7 +122,7 @@ module _ (text text' : List ℕ) where
   total_within n h e =
       let few = length-decimal-le 20 n (omega arith) (omega arith) h in
       let line : length (text ++ codes "listed " ++ decimal n ++ codes "\n")
-          ≡ length text + 7 + length (decimal n) + 1 = simp length-append in
+      ≡ length text + 7 + length (decimal n) + 1 = simp length-append in
       omega (arith, few, ap length e, line)
 
   -- and the line of a refusal at most 53.
@@ -135,5 +135,5 @@ module _ (text text' : List ℕ) where
       let few = length-decimal-le 20 q' (omega arith) (omega (arith, small)) (omega (arith, small)) in
       let few' = length-decimal-le 20 n (omega arith) (omega arith) h in
       let line : length (text ++ codes "refused " ++ decimal q' ++ codes " at " ++ decimal n ++ codes "\n")
-          ≡ length text + 8 + length (decimal q') + 4 + length (decimal n) + 1 = simp length-append in
+      ≡ length text + 8 + length (decimal q') + 4 + length (decimal n) + 1 = simp length-append in
       omega (arith, few, few', ap length e, line)

@@ -35,15 +35,15 @@ pub returns : goal.returns
 returns c =
     let empty = ap length c.new-text.ensures.bytes in
     elim c.match-list_pairs.branch [
-      in-Ok+in_ok-put_listing-in-Ok w ↦
-        let listed = w.in_ok-put_listing-in-Ok.ensures in
-        let part = length-take w.in-Ok.listed.bytes c.list_pairs.new.out in
-        rw w.text-is (omega (arith, empty, listed, part, c.list_pairs.auto))
-    | in-Err+in_ok-put_refusal-in-Err w ↦
-        let r = w.in-Err.refusal in
-        let fits : r.event < 2 ^ 64 = search rules in
-        let line = w.in_ok-put_refusal-in-Err.ensures in
-        let text' = string_bytes w.put_refusal.new.text in
-        let refused = refusal_within (string_bytes c.new-text.result) text' r.question r.event fits line in
-        rw w.text-is (omega (arith, empty, refused))
+      | in-Ok+in_ok-put_listing-in-Ok w ↦
+          let listed = w.in_ok-put_listing-in-Ok.ensures in
+          let part = length-take w.in-Ok.listed.bytes c.list_pairs.new.out in
+          rw w.text-is (omega (arith, empty, listed, part, c.list_pairs.auto))
+      | in-Err+in_ok-put_refusal-in-Err w ↦
+          let r = w.in-Err.refusal in
+          let fits : r.event < 2 ^ 64 = search rules in
+          let line = w.in_ok-put_refusal-in-Err.ensures in
+          let text' = string_bytes w.put_refusal.new.text in
+          let refused = refusal_within (string_bytes c.new-text.result) text' r.question r.event fits line in
+          rw w.text-is (omega (arith, empty, refused))
     ]
