@@ -1,5 +1,6 @@
 // What a word spells: bytes in lowercase hexadecimal, or a decimal number.
-ghost use Rattle.std.specs.Prelude.{◌*◌, ◌<◌, ◌≤◌, length, IfOk};
+ghost use Rattle.std.specs.Prelude.{◌*◌, ◌<◌, ◌≤◌, ◌≡◌, length, IfOk};
+ghost use Rattle.vectors.specs.declared.spelling.Fault.TheVariants.{OutOfMemory};
 
 use std::alloc::{AllocError, Global};
 use std::num::ParseIntError;
@@ -15,6 +16,8 @@ pub enum Fault {
 }
 
 impl From<AllocError> for Fault {
+    ghost from_gives = { λ e f. f ≡ OutOfMemory e };
+
     fn from(error: AllocError) -> Fault {
         Fault::OutOfMemory(error)
     }
