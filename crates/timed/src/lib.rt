@@ -32,7 +32,7 @@ pub extern "C" fn timed_check(recording: &[u8]) -> u64
 // Compares what the last event's row and record have: a number to 4 that depends on every field, so that the
 // compiler leaves none out. With no event every table has 0, so the first two that are compared are equal.
 fn compare_entries(trace: &Trace) -> u64
-    ensures { result ≤ 4 }
+    ensures small { result ≤ 4 }
     ensures empty { length (decode_all trace.now.records.bytes.now) ≡ 0 → result ≡ 1 }
 {
     let n = trace.len();
