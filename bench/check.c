@@ -80,13 +80,11 @@ __attribute__((noipa)) static uint64_t c_check(const uint8_t *recording, size_t 
 
 /* What timed_tables has to return for an accepted recording of n events: the relations of the last one, each
  * searched for by its definition, and compared as there; an inner acquire or release, a start and a join
- * have their own number as the match in their row. With no event there is nothing to compare: 0. */
+ * have their own number as the match in their row. With no event, every table has 0. */
 static uint64_t last_entries(const uint8_t *recording, size_t n) {
-    if (n == 0)
-        return 0;
-    unsigned first = recording[2 * n];
+    unsigned first = n == 0 ? 0 : recording[2 * n];
     unsigned op = first >> 6, task = first >> 2 & 15;
-    unsigned object = (first & 3) << 8 | recording[2 * n + 1];
+    unsigned object = n == 0 ? 0 : (first & 3) << 8 | recording[2 * n + 1];
     size_t predecessor = 0, writer = 0, outer = 0;
     unsigned depths[64] = {0};
     uint64_t held = 0;

@@ -11,7 +11,9 @@ ghost use Rattle.model.specs.Recording.{decode_all};
 ghost use Rattle.model.specs.Pattern.{largest_pattern};
 ghost use Rattle.laws.specs.Frontier.{Before};
 ghost use Rattle.laws.specs.Returning.{Returning};
-ghost use Rattle.chain.specs.Attempted.{chain_of, Reusable, kept_of, judged, Attempted, excluded_after};
+ghost use Rattle.deadlock.specs.declared.Chain.{Chain};
+ghost use Rattle.deadlock.specs.Judged.{of_events};
+ghost use Rattle.chain.specs.Attempted.{Reusable, kept_of, judged, Attempted, excluded_after};
 
 use deadlock::Chain;
 use frontier::Frontier;
@@ -54,26 +56,26 @@ impl Grown {
         }
     }
 
-    // Attempts the acquire e after the events of the path, with at most k more after it. It is then the last
-    // attempt, unless e is skipped.
+    // Attempts the acquire e after these events, with at most k more after it: for any chain of these events
+    // to whose first one the locks lead back. It is then the last attempt, unless e is skipped.
     pub fn attempt(
         &mut self,
         trace: &Trace,
         back: &[u64; 16],
-        path: &Path,
+        events: &[u16],
         k: usize,
         frontier: &Frontier,
         e: usize,
     ) -> Trial
-        requires { Returning (decode_all trace.now.records.bytes.now) path.now.chain.first (suc k) back.now
-            × T (all (is_event (decode_all trace.now.records.bytes.now)) (chain_of path.now).events)
+        requires { T (all (is_event (decode_all trace.now.records.bytes.now)) events.now)
             × (k < largest_pattern)
-            × Before (decode_all trace.now.records.bytes.now) (chain_of path.now).events frontier.now.front
+            × Before (decode_all trace.now.records.bytes.now) events.now frontier.now.front
             frontier.now.latest
-            × Reusable (decode_all trace.now.records.bytes.now) (chain_of path.now).events e self.old
+            × Reusable (decode_all trace.now.records.bytes.now) events.now e self.old
             × (1 ≤ e) × (2 * e ≤ length trace.now.records.bytes.now)
             × T (is_acquire (decode_all trace.now.records.bytes.now) e) }
-        ensures { Attempted (decode_all trace.now.records.bytes.now) k (chain_of path.now) e result self.old
+        ensures { (c : Chain) → Returning (decode_all trace.now.records.bytes.now) c.first (suc k) back.now
+            → Attempted (decode_all trace.now.records.bytes.now) k (of_events events.now c) e result self.old
             self.new }
     {
         if !deadlock::lock_in_mask(trace.records.bytes, back[k], e) {
@@ -83,19 +85,16 @@ impl Grown {
         self.keep(own);
         let (_, grown) = self.last.get_or_insert_with(|| (own, *frontier));
         grown.extend(trace, e);
-        judge(trace, path, grown, e)
+        judge(trace, events, grown, e)
     }
 }
 
-// What is found of event e after the events of the path, by the frontier of the closure of their
-// predecessors.
-fn judge(trace: &Trace, path: &Path, grown: &Frontier, e: usize) -> Trial
-    requires { T (all (is_event (decode_all trace.now.records.bytes.now)) (chain_of path.now).events)
+// What is found of event e after these events, by the frontier of the closure of their predecessors.
+fn judge(trace: &Trace, events: &[u16], grown: &Frontier, e: usize) -> Trial
+    requires { T (all (is_event (decode_all trace.now.records.bytes.now)) events.now)
         × (1 ≤ e) × (2 * e ≤ length trace.now.records.bytes.now) }
-    ensures { result ≡ judged (decode_all trace.now.records.bytes.now) (chain_of path.now).events grown.now
-        e }
+    ensures { result ≡ judged (decode_all trace.now.records.bytes.now) events.now grown.now e }
 {
-    let events = path.events();
     if !deadlock::avoids(trace, events.len(), |i| events[i], grown) {
         return Trial::TaskFailure;
     }

@@ -13,6 +13,7 @@ ghost use Rattle.model.specs.Bytes.{encode};
 ghost use Rattle.model.specs.Trace.{task, object, is_acquire};
 ghost use Rattle.model.specs.Recording.{decode_all};
 ghost use Rattle.model.specs.Relations.{held};
+ghost use Rattle.model.specs.Calls.Check.{check_events};
 ghost use Rattle.model.specs.Calls.Verdict.{verdict};
 ghost use Rattle.model.specs.Calls.Witness.{witness, witness_out};
 ghost use Rattle.model.specs.Answers.{verdict_of, witness_of};
@@ -55,14 +56,14 @@ pub fn with_task(records: &[u8], tasks: u64, e: usize) -> u64
 
 // Event e, at which its task holds the locks of the mask, is an outer acquire: it is one of a lock, which is
 // not among them.
-pub fn is_acquire(trace: &Trace, mask: u64, e: usize) -> bool
-    requires { (1 ≤ e) × (2 * e ≤ length trace.now.records.bytes.now)
-        × (mask ≡ held (decode_all trace.now.records.bytes.now) e) }
-    ensures { result ≡ is_acquire (decode_all trace.now.records.bytes.now) e }
+pub fn is_acquire(records: &[u8], mask: u64, e: usize) -> bool
+    requires { (1 ≤ e) × (2 * e ≤ length records.now)
+        × ((check_events (decode_all records.now)).refusal ≡ 0) × (mask ≡ held (decode_all records.now) e) }
+    ensures { result ≡ is_acquire (decode_all records.now) e }
 {
-    match trace.operation(e) {
+    match recording::operation(records, e) {
         Op::Acquire => {
-            let l = trace.object(e) as u64;
+            let l = recording::object(records, e) as u64;
             l < 64 && !recording::in_mask(mask, l)
         }
         _ => false,
@@ -116,7 +117,7 @@ impl Chain {
         if self.guards & held != 0 {
             return false;
         }
-        is_acquire(trace, held, e)
+        is_acquire(trace.records.bytes, held, e)
     }
 
     // The number e may come next in a pattern that begins as the chain does: it is that of an event later

@@ -34,7 +34,7 @@ fn begins(trace: &Trace, e: usize) -> bool
     if trace.len() < e {
         return false;
     }
-    crate::is_acquire(trace, trace.held(e), e)
+    crate::is_acquire(trace.records.bytes, trace.held(e), e)
 }
 
 // The numbers after the first complete the chain of the acquire a: each joins the chain before it, and the

@@ -72,12 +72,13 @@ impl<'a> Search<'a> {
             (chain_of path.now)) out.old out.new found result }
     {
         let trace = self.links.trace;
+        let events = path.events();
         let mut grown = Grown::new();
         let mut chain = path.chain;
         let mut taken = found;
         let mut at = chain.first;
         while let Some(e) = self.links.following(&chain, at) {
-            let met = grown.attempt(trace, &self.back, path, left - 1, frontier, e);
+            let met = grown.attempt(trace, &self.back, events, left - 1, frontier, e);
             chain = chain::exclude(trace.records.bytes, &chain, met, e);
             at = e;
             match met {

@@ -1,10 +1,17 @@
--- Laws of the entries of a listing. Assumes nothing.
-use Prim.Native.Nat.{ℕ, ◌+◌, ◌*◌, ◌/◌, ◌%◌, ◌≤◌, ◌<◌}
+-- Laws of the entries of a listing, and of how long its lines are. Assumes nothing.
+use Prim.Native.Nat.{ℕ, ◌+◌, ◌*◌, ◌/◌, ◌%◌, ◌^◌, ◌≤◌, ◌<◌}
 use mathlib.Core.Path.{◌≡◌, ap, ◌∙◌}
 use mathlib.Core.List.{List, [], ◌∷◌, ◌++◌}
 use native.Mathlib.Omega.{arith}
 use lib.ListN.{length, get_or, take, drop, length-append}
 use lib.Seq.{take-append_seam, drop-append_seam}
+use Rattle.std.specs.Prelude.{codes, decimal}
+use Rattle.std.proofs.lemmas.Fmt.{length-decimal-le}
+use Rattle.model.specs.Refused.{number}
+use Rattle.model.specs.declared.Question.{Question}
+use Rattle.model.specs.declared.Question.TheVariants.{TwoBytes, Format, Length, Object, LockFree, LockHeld}
+use Rattle.model.specs.declared.Question.TheVariants.{Written, LargestSize, EventNumber, Pattern, SetLength}
+use Rattle.model.specs.declared.Question.TheVariants.{SpareBits, OutputLength, LockNumber, TaskNew, TaskOpen}
 use Rattle.model.specs.Answers.{Listed}
 use Rattle.model.specs.Bytes.{numbers, encode}
 use Rattle.model.specs.Calls.List.{entries, listing, list, list_out}
@@ -82,3 +89,51 @@ listed_front b out out' k r q w z = (
 
     size : r.bytes ≡ length bytes
     size = ap (λ (l : Listed). l.bytes) (q ∙ list_answer b k (length out) fine)
+
+-- A question's number is at most 16.
+number_small : (q : Question) → number q ≤ 16
+number_small TwoBytes = omega arith
+number_small Format = omega arith
+number_small Length = omega arith
+number_small Object = omega arith
+number_small LockFree = omega arith
+number_small LockHeld = omega arith
+number_small Written = omega arith
+number_small LargestSize = omega arith
+number_small EventNumber = omega arith
+number_small Pattern = omega arith
+number_small SetLength = omega arith
+number_small SpareBits = omega arith
+number_small OutputLength = omega arith
+number_small LockNumber = omega arith
+number_small TaskNew = omega arith
+number_small TaskOpen = omega arith
+
+module _ (text text' : List ℕ) where
+  -- A space and an event number take at most six bytes,
+  pub event_within : (n : ℕ) → n < 2 ^ 16 → text' ≡ text ++ 32 ∷ decimal n → length text' ≤ length text + 6
+  event_within n h e =
+      let few = length-decimal-le 5 n (omega arith) (omega arith) (omega arith) in
+      omega (arith, few, ap length e, length-append text (32 ∷ decimal n))
+
+  -- the last line of a listing at most 28,
+  pub total_within : (n : ℕ) → n < 2 ^ 64 → text' ≡ text ++ codes "listed " ++ decimal n ++ codes "\n"
+      → length text' ≤ length text + 28
+  total_within n h e =
+      let few = length-decimal-le 20 n (omega arith) (omega arith) h in
+      let line : length (text ++ codes "listed " ++ decimal n ++ codes "\n")
+      ≡ length text + 7 + length (decimal n) + 1 = simp length-append in
+      omega (arith, few, ap length e, line)
+
+  -- and the line of a refusal at most 53.
+  pub refusal_within : (q : Question) (n : ℕ) → n < 2 ^ 64
+      → text' ≡ text ++ codes "refused " ++ decimal (number q) ++ codes " at " ++ decimal n ++ codes "\n"
+      → length text' ≤ length text + 53
+  refusal_within q n h e =
+      let q' = number q in
+      let small = number_small q in
+      let few = length-decimal-le 20 q' (omega arith) (omega (arith, small)) (omega (arith, small)) in
+      let few' = length-decimal-le 20 n (omega arith) (omega arith) h in
+      let line : length (text ++ codes "refused " ++ decimal q' ++ codes " at " ++ decimal n ++ codes "\n")
+      ≡ length text + 8 + length (decimal q') + 4 + length (decimal n) + 1 = simp length-append in
+      omega (arith, few, few', ap length e, line)

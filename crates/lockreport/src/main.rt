@@ -4,11 +4,12 @@
 // ends the input, and a write that fails is passed over.
 #![tactic(auto)]
 
-ghost use Rattle.std.specs.Prelude.{◌<◌, ◌≡◌, ◌++◌, length, OnOk, string_bytes, codes, decimal};
+ghost use Rattle.std.specs.Prelude.{◌+◌, ◌*◌, ◌≤◌, ◌<◌, ◌≡◌, ◌++◌, length};
+ghost use Rattle.std.specs.Prelude.{OnOk, IfOk, string_bytes, codes, decimal};
 ghost use Rattle.model.specs.Refused.{number};
 ghost use Rattle.model.specs.Answers.{listed_of};
 ghost use Rattle.model.specs.Calls.List.{list, list_out};
-ghost use Rattle.lockreport.specs.Text.{Entries};
+ghost use Rattle.lockreport.specs.Text.{Entries, text_length};
 
 use model::Refusal;
 use std::alloc::{AllocError, Global};
@@ -17,13 +18,32 @@ use std::io::{Read, Write};
 // One byte more than a recording can have, so that more than 8,192 bytes have a length that no count fits.
 const INPUT: usize = 8193;
 
-// Puts the line of a pattern: "deadlock" and its event numbers, each from two bytes.
-fn put_pattern(text: &mut String, events: &[u8]) -> Result<(), AllocError> {
-    printing::push(text, "deadlock")?;
+// Puts a space and an event number, which has at most five digits.
+fn put_event(text: &mut String, event: u16) -> Result<(), AllocError>
+    ensures { OnOk result (length (string_bytes text.new) ≤ length (string_bytes text.old) + 6) }
+{
+    printing::push_spaced(text, event as u64)
+}
+
+// Puts the event numbers of a pattern, each from two bytes.
+fn put_events(text: &mut String, events: &[u8]) -> Result<(), AllocError>
+    ensures { OnOk result (length (string_bytes text.new)
+        ≤ length (string_bytes text.old) + 3 * length events.now) }
+{
     let (numbers, _) = events.as_chunks::<2>();
     for number in numbers {
-        printing::push_spaced(text, u16::from_be_bytes(*number) as u64)?;
+        put_event(text, u16::from_be_bytes(*number))?;
     }
+    Ok(())
+}
+
+// Puts the line of a pattern: "deadlock" and its event numbers.
+fn put_pattern(text: &mut String, events: &[u8]) -> Result<(), AllocError>
+    ensures { OnOk result (length (string_bytes text.new)
+        ≤ length (string_bytes text.old) + 3 * length events.now + 9) }
+{
+    printing::push(text, "deadlock")?;
+    put_events(text, events)?;
     printing::push(text, "\n")
 }
 
@@ -33,6 +53,7 @@ fn split_entry(entries: &[u8]) -> (&[u8], &[u8])
     requires some { 0 < length entries.now }
     requires entries { Entries entries.now }
     ensures entries { Entries result.1.now }
+    ensures parts { length result.0.now + length result.1.now + 2 ≡ length entries.now }
     ensures fewer { length result.1.now < length entries.now }
 {
     let size = recording::number(entries, 0) as usize;
@@ -40,9 +61,11 @@ fn split_entry(entries: &[u8]) -> (&[u8], &[u8])
     (&entry[2..], others)
 }
 
-// Puts the lines of a listing's entries.
+// Puts the lines of a listing's entries: one of k events, of 2 * k + 2 bytes, takes at most 6 * k + 9.
 fn put_patterns(text: &mut String, entries: &[u8]) -> Result<(), AllocError>
     requires { Entries entries.now }
+    ensures { OnOk result (length (string_bytes text.new)
+        ≤ length (string_bytes text.old) + 5 * length entries.now) }
 {
     let mut left = entries;
     while !left.is_empty() {
@@ -53,12 +76,22 @@ fn put_patterns(text: &mut String, entries: &[u8]) -> Result<(), AllocError>
     Ok(())
 }
 
-// Puts the lines of a listing's entries, and then "listed" and the number of patterns.
+// Puts the last line of a listing: "listed" and the number of patterns.
+fn put_total(text: &mut String, patterns: u64) -> Result<(), AllocError>
+    ensures { OnOk result (string_bytes text.new
+        ≡ string_bytes text.old ++ codes "listed " ++ decimal patterns ++ codes "\n") }
+{
+    writeln!(text, "listed {patterns}")
+}
+
+// Puts the lines of a listing's entries, and then the last.
 fn put_listing(text: &mut String, entries: &[u8], patterns: u64) -> Result<(), AllocError>
     requires { Entries entries.now }
+    ensures { OnOk result (length (string_bytes text.new)
+        ≤ length (string_bytes text.old) + text_length (length entries.now)) }
 {
     put_patterns(text, entries)?;
-    writeln!(text, "listed {patterns}")
+    put_total(text, patterns)
 }
 
 // Puts the line of a refusal: "refused", its number, "at" and the event.
@@ -84,7 +117,9 @@ fn list_pairs(recording: &[u8], out: &mut [u8]) -> Result<model::Entries, Refusa
 }
 
 // The lines for a recording, whose listing gets an output of 65,536 bytes.
-fn report(alloc: Global, recording: &[u8]) -> Result<String, AllocError> {
+fn report(alloc: Global, recording: &[u8]) -> Result<String, AllocError>
+    ensures { IfOk result (λ text. length (string_bytes text) ≤ text_length 65536) }
+{
     let mut out = [0u8; 65536];
     let mut text = String::new(alloc);
     match list_pairs(recording, &mut out) {

@@ -14,6 +14,7 @@ use Rattle.model.specs.Trace.{Trace, tasks, variables, at, task, object, is_writ
 use Rattle.model.specs.Recording.{decode_all}
 use Rattle.model.specs.Tasks.{is_start, target}
 use Rattle.model.specs.Relations.{latest_of, start_of, last_of, joined}
+use Rattle.model.specs.Calls.Check.{check_events}
 use Rattle.laws.specs.Order.{awaited}
 use Rattle.laws.specs.Walked.{LatestEvents}
 use Rattle.laws.proofs.Relations.{joined_last}
@@ -21,8 +22,7 @@ use Rattle.laws.proofs.LatestEvents.{latest-set, latest_keep, latest-writer, lat
 use Rattle.laws.proofs.Operations.{is_read_op, is_write_op, is_start-none, starts_is, joins_is}
 use Rattle.laws.proofs.Awaited.{awaited_read}
 use Rattle.laws.proofs.WellFormed.{sync-object}
-use Rattle.recording.proofs.Accepted.{sound}
-use Rattle.recording.specs.declared.Records.{Records}
+use Rattle.laws.proofs.Questions.{events_sound}
 use Rattle.order.specs.declared.TaskEvents.{TaskEvents}
 use Rattle.order.specs.declared.Latest.{Latest}
 use Rattle.order.specs.Kept.{none, of_task, events, starts, LatestBefore}
@@ -158,6 +158,7 @@ join_awaits σ e q p a h r =
     r ∙ rw p.1 (sym (joined_last σ e (rw (joins_is σ e q (rw p.1 at h) a) tt)))
 
 -- The object of an accepted acquire or release record is a lock, or it stands for a task.
-pub names_task : (r : Records) (e : ℕ) {op o : ℕ} → op ≡ (at (decode_all r.bytes.now) e).op
-    → (o < variables) × (o ≡ object (decode_all r.bytes.now) e) → 2 ≤ op → op ≤ 3 → o < 80
-names_task r e {op} q p h k = rw p.1 (sync-object _ (sound r) e op q h k)
+pub names_task : (b : List ℕ) → (check_events (decode_all b)).refusal ≡ 0 → (e : ℕ) {op o : ℕ}
+    → op ≡ (at (decode_all b) e).op → (o < variables) × (o ≡ object (decode_all b) e) → 2 ≤ op → op ≤ 3
+    → o < 80
+names_task b accepted e {op} q p h k = rw p.1 (sync-object _ (events_sound b accepted) e op q h k)

@@ -6,10 +6,12 @@ ghost use Rattle.std.specs.Prelude.{ℕ, ◌+◌, ◌*◌, ◌<◌, ◌≤◌, �
 ghost use Rattle.model.specs.Trace.{Trace, tasks, at};
 ghost use Rattle.model.specs.Recording.{decode_all};
 ghost use Rattle.model.specs.Relations.{last_of, predecessor, joined};
+ghost use Rattle.model.specs.Calls.Check.{check_events};
+ghost use Rattle.laws.specs.Sizes.{table_length};
 ghost use Rattle.laws.specs.Order.{awaited};
 ghost use Rattle.order.specs.Kept.{LatestBefore};
 
-use recording::{Op, Records};
+use recording::Op;
 
 // Of a task its latest event and its start, or 0.
 #[derive(Clone, Copy)]
@@ -54,23 +56,24 @@ impl Latest {
     }
 
     // The predecessor of event e: the last event of its task, or its start.
-    pub fn predecessor_of(&self, records: &Records, e: usize) -> u16
-        requires { (1 ≤ e) × (2 * e ≤ length records.now.bytes.now)
-            × LatestBefore (decode_all records.now.bytes.now) e self.now }
-        ensures { result ≡ predecessor (decode_all records.now.bytes.now) e }
+    pub fn predecessor_of(&self, records: &[u8], e: usize) -> u16
+        requires { (1 ≤ e) × (2 * e ≤ length records.now)
+            × LatestBefore (decode_all records.now) e self.now }
+        ensures { result ≡ predecessor (decode_all records.now) e }
     {
-        self.last_of(recording::task(records.bytes, e) as usize)
+        self.last_of(recording::task(records, e) as usize)
     }
 
     // What the release record of event e waits for: a join for the last event of the joined task, or its
     // start, and a release of a lock for nothing.
-    fn joined_of(&self, records: &Records, e: usize) -> u16
-        requires { (1 ≤ e) × (2 * e ≤ length records.now.bytes.now)
-            × ((at (decode_all records.now.bytes.now) e).op ≡ 3)
-            × LatestBefore (decode_all records.now.bytes.now) e self.now }
-        ensures { result ≡ joined (decode_all records.now.bytes.now) e }
+    fn joined_of(&self, records: &[u8], e: usize) -> u16
+        requires { (1 ≤ e) × (2 * e ≤ length records.now)
+            × ((check_events (decode_all records.now)).refusal ≡ 0)
+            × ((at (decode_all records.now) e).op ≡ 3)
+            × LatestBefore (decode_all records.now) e self.now }
+        ensures { result ≡ joined (decode_all records.now) e }
     {
-        let o = recording::object(records.bytes, e) as usize;
+        let o = recording::object(records, e) as usize;
         if o < 64 {
             return 0;
         }
@@ -78,27 +81,29 @@ impl Latest {
     }
 
     // What event e awaits: a read the latest write of its variable, a join what it waits for.
-    pub fn awaited_by(&self, records: &Records, e: usize) -> u16
-        requires { (1 ≤ e) × (2 * e ≤ length records.now.bytes.now)
-            × LatestBefore (decode_all records.now.bytes.now) e self.now }
-        ensures { result ≡ awaited (decode_all records.now.bytes.now) e }
+    pub fn awaited_by(&self, records: &[u8], e: usize) -> u16
+        requires { (1 ≤ e) × (2 * e ≤ length records.now)
+            × ((check_events (decode_all records.now)).refusal ≡ 0)
+            × LatestBefore (decode_all records.now) e self.now }
+        ensures { result ≡ awaited (decode_all records.now) e }
     {
-        match recording::operation(records.bytes, e) {
-            Op::Read => self.writes[recording::object(records.bytes, e) as usize],
+        match recording::operation(records, e) {
+            Op::Read => self.writes[recording::object(records, e) as usize],
             Op::Release => self.joined_of(records, e),
             _ => 0,
         }
     }
 
     // Notes event e, which is then the latest of its task, and where it is a write or a start also of these.
-    pub fn note(&mut self, records: &Records, e: usize)
-        requires { (1 ≤ e) × (2 * e ≤ length records.now.bytes.now)
-            × LatestBefore (decode_all records.now.bytes.now) e self.old }
-        ensures { LatestBefore (decode_all records.now.bytes.now) (e + 1) self.new }
+    pub fn note(&mut self, records: &[u8], e: usize)
+        requires { (1 ≤ e) × (2 * e ≤ length records.now) × (e < table_length)
+            × ((check_events (decode_all records.now)).refusal ≡ 0)
+            × LatestBefore (decode_all records.now) e self.old }
+        ensures { LatestBefore (decode_all records.now) (e + 1) self.new }
     {
-        let o = recording::object(records.bytes, e) as usize;
-        self.tasks[recording::task(records.bytes, e) as usize].event = e as u16;
-        match recording::operation(records.bytes, e) {
+        let o = recording::object(records, e) as usize;
+        self.tasks[recording::task(records, e) as usize].event = e as u16;
+        match recording::operation(records, e) {
             Op::Write => self.writes[o] = e as u16,
             other => {
                 if 64 <= o {

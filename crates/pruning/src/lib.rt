@@ -42,7 +42,7 @@ fn nested_or(trace: &Trace, e: usize, later: u16) -> u16
     if held == 0 {
         return later;
     }
-    if !deadlock::is_acquire(trace, held, e) {
+    if !deadlock::is_acquire(trace.records.bytes, held, e) {
         return later;
     }
     e as u16

@@ -73,8 +73,8 @@ struct Life {
 // What earlier events have done, and from the first start or join on what they have done to each task.
 #[derive(Drop)]
 struct Forked {
-    past: Past,
     lives: [Life; 16],
+    past: Past,
 }
 
 // What an event that no question refuses is found to be: it is asked no more, or its record, an acquire's or
@@ -128,7 +128,7 @@ pub fn object(records: &[u8], e: usize) -> u16
     ensures { (result < variables) × (result ≡ object (decode_all records.now) e) }
 {
     let at = 2 * (e - 1);
-    u16::from_be_bytes([records[at], records[at + 1]]) & 1023
+    (((records[at] & 3) as u16) << 8) | (records[at + 1] as u16)
 }
 
 // The lock that event e names.

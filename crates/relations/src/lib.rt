@@ -58,18 +58,19 @@ struct Walk {
 }
 
 impl Walk {
-    // The row of event e, of kind k, as far as the events to it show its match.
-    fn row_of(&self, records: &Records, e: usize, k: Kind) -> Row
+    // The row of event e, of kind k and with these held locks, as far as the events to it show its match.
+    fn row_of(&self, records: &Records, e: usize, mask: u64, k: Kind) -> Row
         requires { (1 ≤ e) × (2 * e ≤ length records.now.bytes.now)
+            × (mask ≡ held (decode_all records.now.bytes.now) e)
             × IsKind (decode_all records.now.bytes.now) e k
             × Walked (decode_all records.now.bytes.now) e self.now }
         ensures { (result.matching ≤ e) × IsRow (decode_all records.now.bytes.now) (e + 1) e result }
     {
         Row {
-            held: self.sections.held_locks(records, e),
-            predecessor: self.latest.predecessor_of(records, e),
-            awaited: self.latest.awaited_by(records, e),
-            matching: self.sections.match_of(records, e, k),
+            held: mask,
+            predecessor: self.latest.predecessor_of(records.bytes, e),
+            awaited: self.latest.awaited_by(records.bytes, e),
+            matching: self.sections.match_of(records.bytes, e, k),
         }
     }
 
@@ -81,10 +82,11 @@ impl Walk {
         ensures { Walked (decode_all records.now.bytes.now) (e + 1) self.new
             × Noted (decode_all records.now.bytes.now) (e + 1) tables.new }
     {
-        let kind = self.sections.kind_of(records, e);
-        let row = self.row_of(records, e, kind);
-        self.sections.note(records, e, kind);
-        self.latest.note(records, e);
+        let mask = self.sections.held_locks(records.bytes, e);
+        let kind = self.sections.kind_of(records.bytes, e, mask);
+        let row = self.row_of(records, e, mask, kind);
+        self.sections.note(records.bytes, e, kind);
+        self.latest.note(records.bytes, e);
         tables.put(e, &row);
         match kind {
             Kind::Release => tables.matches[row.matching as usize] = e as u16,

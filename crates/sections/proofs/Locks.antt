@@ -13,6 +13,8 @@ use borrow.Author.Tests.{eq-eqb, ne_eqb}
 use Rattle.model.specs.Lists.{last_before}
 use Rattle.model.specs.Trace.{Trace, tasks, locks, variables, at, task, object, is_acquire, is_release}
 use Rattle.model.specs.Recording.{decode_all}
+use Rattle.model.specs.Calls.Check.{check_events}
+use Rattle.laws.specs.Sizes.{table_length}
 use Rattle.laws.specs.EventKinds.{uncounted_kind, is_uncounted, kind}
 use Rattle.laws.specs.Walked.{LatestEvents, KeptDepths, Locksets, marked_before}
 use Rattle.laws.proofs.Tests.{is_true}
@@ -23,8 +25,7 @@ use Rattle.laws.proofs.EventKinds.{is_acquire-kind, is_release-kind, is_uncounte
 use Rattle.laws.proofs.WellFormed.{WellFormed, release-held}
 use Rattle.laws.proofs.OpenAcquires.{opened_acquire}
 use Rattle.laws.proofs.Matches.{marked_new, marked_release}
-use Rattle.recording.proofs.Accepted.{sound}
-use Rattle.recording.specs.declared.Records.{Records}
+use Rattle.laws.proofs.Questions.{events_sound}
 use Rattle.sections.specs.declared.Kind as K
 use Rattle.sections.specs.declared.Section.{Section}
 use Rattle.sections.specs.declared.OpenSections.{OpenSections}
@@ -33,29 +34,24 @@ use Rattle.sections.specs.Kept.{of_lock, depths, acquires, OpenBefore}
 use Rattle.sections.proofs.Fields.{with_acquire, acquire_set, depth_left, acquire_at}
 use Rattle.sections.proofs.KindOf.{Coming, access_depths, outer_acquire, outer_release}
 
--- Event e of a well-formed trace, with its kind, and what is kept before it.
-pub record OfKind (σ : Trace) (e : ℕ) (k : K.Kind) (sections : OpenSections) : Type 0 where
+-- Event e of a well-formed trace, with its kind.
+pub record OfKind (σ : Trace) (e : ℕ) (k : K.Kind) : Type 0 where
   pub sound : WellFormed σ
   pub event : (1 ≤ e) × (e ≤ length σ)
   pub kind_is : IsKind σ e k
-  pub before : OpenBefore σ e sections
 
--- An event of accepted records is one.
-pub of_accepted : (r : Records) {e : ℕ} {k : K.Kind} {sections : OpenSections}
-    → (1 ≤ e) × (2 * e ≤ length r.bytes.now) × IsKind (decode_all r.bytes.now) e k
-    × OpenBefore (decode_all r.bytes.now) e sections
-    → OfKind (decode_all r.bytes.now) e k sections
-of_accepted r (first, last, kind, kept) = record {
-  sound = sound r;
-  event = record-event r.bytes.now _ (first, last);
+-- An event of accepted records is one, whatever is kept before it.
+pub of_accepted : (b : List ℕ) {e : ℕ} {k : K.Kind} {Kept : Type 0}
+    → (1 ≤ e) × (2 * e ≤ length b) × (e < table_length) × ((check_events (decode_all b)).refusal ≡ 0)
+    × IsKind (decode_all b) e k × Kept
+    → OfKind (decode_all b) e k
+of_accepted b (first, last, short, accepted, kind, kept) = record {
+  sound = events_sound b accepted;
+  event = record-event b _ (first, last);
   kind_is = kind;
-  before = kept;
 }
 
-module _ {σ : Trace} {e : ℕ} {k : K.Kind} {sections : OpenSections} (u : OfKind σ e k sections) where
-  acquires_long : length (acquires sections.locks) ≡ locks
-  acquires_long = length-map sections.locks _ ∙ sym (length-map sections.locks _) ∙ u.before.depth.long
-
+module _ {σ : Trace} {e : ℕ} {k : K.Kind} (u : OfKind σ e k) where
   code_is : kind_code k ≡ kind σ e
   code_is = u.kind_is.code_is
 
@@ -102,16 +98,17 @@ module _ {σ : Trace} {e : ℕ} {k : K.Kind} {sections : OpenSections} (u : OfKi
     release_lock a = rw is-object.1 (release-object σ e (rw (release a) tt))
 
     -- An outer release has the latest acquire of its lock, which is earlier.
-    pub release_match : kind_code k ≡ 3
-        → ((of_lock sections.locks l).acquire ≤ e)
-        × ((of_lock sections.locks l).acquire ≡ marked_before σ (e + 1) e)
-    release_match a =
+    pub release_match : (table : List Section) → length table ≡ locks
+        → LatestEvents (is_acquire σ) (object σ) e (acquires table) → kind_code k ≡ 3
+        → ((of_lock table l).acquire ≤ e) × ((of_lock table l).acquire ≡ marked_before σ (e + 1) e)
+    release_match table long z a =
         let t : T (is_release σ e) = rw (release a) tt in
         let b = release_lock a in
-        let latest : (of_lock sections.locks l).acquire
+        let size = length-map table (λ (s : Section). s.acquire) in
+        let latest : (of_lock table l).acquire
         ≡ last_before e (λ f. is_acquire σ f && eqb (object σ e) (object σ f)) =
-        rw (← (acquire_at sections.locks l), is-object.1)
-        (u.before.acquire.at (object σ e) (omega (arith, is-object, b, acquires_long))) in
+        rw (← (acquire_at table l), is-object.1)
+        (z.at (object σ e) (omega (arith, is-object, b, long, size))) in
         let opened = opened_acquire σ u.sound e u.event t in (
           rw latest (omega (arith, opened.1)),
           rw (add-one e) (marked_release σ u.sound e u.event t latest),
@@ -119,76 +116,81 @@ module _ {σ : Trace} {e : ℕ} {k : K.Kind} {sections : OpenSections} (u : OfKi
 
     -- ---- what is kept
 
-    -- With its operation and object.
-    pub coming : {op : ℕ} → op ≡ (at σ e).op → Coming σ e op l sections.locks
-    coming q = record {
-      sound = u.sound;
-      event = u.event;
-      op_is = (omega (arith, u.kind_is.op_lt), q);
-      object_is = is-object.1;
-      depths_are = u.before.depth;
-    }
+    module _ {sections : OpenSections} (before : OpenBefore σ e sections) where
+      acquires_long : length (acquires sections.locks) ≡ locks
+      acquires_long =
+          length-map sections.locks _ ∙ sym (length-map sections.locks _) ∙ before.depth.long
 
-    unacquired : kind_code k ≢ 2 → LatestEvents (is_acquire σ) (object σ) (e + 1) (acquires sections.locks)
-    unacquired d =
-        rw (add-one e)
-        (latest_keep (is_acquire σ) (object σ) e (acquires sections.locks) u.before.acquire (no_acquire d))
+      -- With its operation and object.
+      pub coming : {op : ℕ} → op ≡ (at σ e).op → Coming σ e op l sections.locks
+      coming q = record {
+        sound = u.sound;
+        event = u.event;
+        op_is = (omega (arith, u.kind_is.op_lt), q);
+        object_is = is-object.1;
+        depths_are = before.depth;
+      }
 
-    unlocked : kind_code k ≢ 2 → kind_code k ≢ 3 → Locksets σ (e + 1) sections.locksets
-    unlocked c d =
-        rw (add-one e)
-        (locksets_access σ e sections.locksets (no_acquire c) (no_release d) u.before.lockset)
+      unacquired : kind_code k ≢ 2 → LatestEvents (is_acquire σ) (object σ) (e + 1) (acquires sections.locks)
+      unacquired d =
+          rw (add-one e)
+          (latest_keep (is_acquire σ) (object σ) e (acquires sections.locks) before.acquire (no_acquire d))
 
-    -- A read or a write changes nothing of it,
-    pub access_noted : kind_code k ≢ 2 → kind_code k ≢ 3 → kind_code k ≢ uncounted_kind
-        → OpenBefore σ (e + 1) sections
-    access_noted c d n = record {
-      depth = let q = op_is n in access_depths (coming q) (omega (arith, u.kind_is.op_lt));
-      lockset = unlocked c d;
-      acquire = unacquired c;
-    }
+      unlocked : kind_code k ≢ 2 → kind_code k ≢ 3 → Locksets σ (e + 1) sections.locksets
+      unlocked c d =
+          rw (add-one e)
+          (locksets_access σ e sections.locksets (no_acquire c) (no_release d) before.lockset)
 
-    -- and a record that does not count at most the depths.
-    pub depth_noted : kind_code k ≡ uncounted_kind → {table : List Section}
-        → KeptDepths σ (e + 1) (depths table) → acquires table ≡ acquires sections.locks
-        → OpenBefore σ (e + 1) (record { locks = table; locksets = sections.locksets })
-    depth_noted a z left = record {
-      depth = z;
-      lockset = unlocked (omega arith) (omega arith);
-      acquire = rw left (unacquired (omega arith));
-    }
+      -- A read or a write changes nothing of it,
+      pub access_noted : kind_code k ≢ 2 → kind_code k ≢ 3 → kind_code k ≢ uncounted_kind
+          → OpenBefore σ (e + 1) sections
+      access_noted c d n = record {
+        depth = let q = op_is n in access_depths (coming q) (omega (arith, u.kind_is.op_lt));
+        lockset = unlocked c d;
+        acquire = unacquired c;
+      }
 
-    module _ {t : ℕ} (is-task : (t < tasks) × (t ≡ task σ e)) where
-      -- The task of an outer acquire holds its lock, of which it is the latest one,
-      pub acquire_noted : kind_code k ≡ 2
-          → OpenBefore σ (e + 1) (record {
-            locks = with_acquire sections.locks l e;
-            locksets = set sections.locksets t (bit_or (get_or sections.locksets t 0) (1 * 2 ^ l % 2 ^ 64));
-          })
-      acquire_noted a =
-          let b = acquire_lock a in
-          let op = op_is (omega arith) in record {
-            depth = rw (depth_left sections.locks l e) (outer_acquire (coming op) b a (sym a ∙ code_is));
-            lockset = rw (add-one e, is-task.1, is-object.1)
-                (locksets_acquire σ e sections.locksets u.before.lockset (omega (arith, is-task)) (acquire a)
-                (omega (arith, is-object, b)));
-            acquire = rw (add-one e, acquire_set sections.locks l e, is-object.1)
-                (latest-set (is_acquire σ) (object σ) e (acquires sections.locks) u.before.acquire
-                (rw (acquire a) tt) (omega (arith, is-object, b, acquires_long)));
-          }
+      -- and a record that does not count at most the depths.
+      pub depth_noted : kind_code k ≡ uncounted_kind → {table : List Section}
+          → KeptDepths σ (e + 1) (depths table) → acquires table ≡ acquires sections.locks
+          → OpenBefore σ (e + 1) (record { locks = table; locksets = sections.locksets })
+      depth_noted a z left = record {
+        depth = z;
+        lockset = unlocked (omega arith) (omega arith);
+        acquire = rw left (unacquired (omega arith));
+      }
 
-      -- and that of an outer release no more.
-      pub release_noted : kind_code k ≡ 3 → OpenBefore σ (e + 1) (record {
-        locks = sections.locks;
-        locksets = set sections.locksets t (bit_xor (get_or sections.locksets t 0) (1 * 2 ^ l % 2 ^ 64));
-      })
-      release_noted a =
-          let b = release_lock a in
-          let op = op_is (omega arith) in
-          let held = release-held σ u.sound e (rw (release a) tt) in record {
-            depth = outer_release (coming op) b a (sym a ∙ code_is);
-            lockset = rw (add-one e, is-task.1, is-object.1)
-                (locksets_release σ e sections.locksets u.before.lockset (omega (arith, is-task)) (release a)
-                (omega (arith, is-object, b)) (is_true _ held));
-            acquire = unacquired (omega arith);
-          }
+      module _ {t : ℕ} (is-task : (t < tasks) × (t ≡ task σ e)) where
+        -- The task of an outer acquire holds its lock, of which it is the latest one,
+        pub acquire_noted : kind_code k ≡ 2
+            → OpenBefore σ (e + 1) (record {
+              locks = with_acquire sections.locks l e;
+              locksets = set sections.locksets t (bit_or (get_or sections.locksets t 0) (1 * 2 ^ l % 2 ^ 64));
+            })
+        acquire_noted a =
+            let b = acquire_lock a in
+            let op = op_is (omega arith) in record {
+              depth = rw (depth_left sections.locks l e) (outer_acquire (coming op) b a (sym a ∙ code_is));
+              lockset = rw (add-one e, is-task.1, is-object.1)
+                  (locksets_acquire σ e sections.locksets before.lockset (omega (arith, is-task)) (acquire a)
+                  (omega (arith, is-object, b)));
+              acquire = rw (add-one e, acquire_set sections.locks l e, is-object.1)
+                  (latest-set (is_acquire σ) (object σ) e (acquires sections.locks) before.acquire
+                  (rw (acquire a) tt) (omega (arith, is-object, b, acquires_long)));
+            }
+
+        -- and that of an outer release no more.
+        pub release_noted : kind_code k ≡ 3 → OpenBefore σ (e + 1) (record {
+          locks = sections.locks;
+          locksets = set sections.locksets t (bit_xor (get_or sections.locksets t 0) (1 * 2 ^ l % 2 ^ 64));
+        })
+        release_noted a =
+            let b = release_lock a in
+            let op = op_is (omega arith) in
+            let held = release-held σ u.sound e (rw (release a) tt) in record {
+              depth = outer_release (coming op) b a (sym a ∙ code_is);
+              lockset = rw (add-one e, is-task.1, is-object.1)
+                  (locksets_release σ e sections.locksets before.lockset (omega (arith, is-task)) (release a)
+                  (omega (arith, is-object, b)) (is_true _ held));
+              acquire = unacquired (omega arith);
+            }

@@ -1,6 +1,7 @@
 // The public calls: each is made on bytes and numbers, and its answer put as a line behind the text so far. A
-// refusal is told by its number, its event and zeros.
-ghost use Rattle.std.specs.Prelude.{◌≤◌};
+// refusal is told by its number, its event and zeros. An answer takes at most 150 bytes and two for each lent
+// byte: seven numbers take 147 with what follows them.
+ghost use Rattle.std.specs.Prelude.{◌+◌, ◌*◌, ◌≤◌, length, OnOk, string_bytes};
 
 use crate::text;
 use model::{Refusal, Verdict};
@@ -17,7 +18,9 @@ fn refused<const FIELDS: usize>(refusal: Refusal) -> [u64; FIELDS]
 }
 
 // Checks a recording.
-pub fn tell_check(recording: &[u8], text: &mut String) -> Result<(), AllocError> {
+pub fn tell_check(recording: &[u8], text: &mut String) -> Result<(), AllocError>
+    ensures { OnOk result (length (string_bytes text.new) ≤ length (string_bytes text.old) + 150) }
+{
     let fields = match recording::check(recording) {
         Ok(()) => [0, 0],
         Err(refusal) => refused(refusal),
@@ -26,7 +29,9 @@ pub fn tell_check(recording: &[u8], text: &mut String) -> Result<(), AllocError>
 }
 
 // Tells the relations of an event.
-pub fn tell_relations(recording: &[u8], event: u64, text: &mut String) -> Result<(), AllocError> {
+pub fn tell_relations(recording: &[u8], event: u64, text: &mut String) -> Result<(), AllocError>
+    ensures { OnOk result (length (string_bytes text.new) ≤ length (string_bytes text.old) + 150) }
+{
     let fields = match relations::relations(recording, event) {
         Ok(found) => [
             0,
@@ -43,7 +48,9 @@ pub fn tell_relations(recording: &[u8], event: u64, text: &mut String) -> Result
 }
 
 // Tells the load of a lock.
-pub fn tell_load(recording: &[u8], lock: u64, text: &mut String) -> Result<(), AllocError> {
+pub fn tell_load(recording: &[u8], lock: u64, text: &mut String) -> Result<(), AllocError>
+    ensures { OnOk result (length (string_bytes text.new) ≤ length (string_bytes text.old) + 150) }
+{
     let fields = match load::load(recording, lock) {
         Ok(percent) => [0, 0, percent],
         Err(refusal) => refused(refusal),
@@ -52,7 +59,10 @@ pub fn tell_load(recording: &[u8], lock: u64, text: &mut String) -> Result<(), A
 }
 
 // Closes an event set.
-pub fn tell_close(recording: &[u8], set: &mut [u8], text: &mut String) -> Result<(), AllocError> {
+pub fn tell_close(recording: &[u8], set: &mut [u8], text: &mut String) -> Result<(), AllocError>
+    ensures { OnOk result (length (string_bytes text.new)
+        ≤ length (string_bytes text.old) + 150 + 2 * length set.old) }
+{
     let fields = match closure::close(recording, set) {
         Ok(added) => [0, 0, added],
         Err(refusal) => refused(refusal),
@@ -66,7 +76,10 @@ pub fn tell_list(
     size: u64,
     out: &mut [u8],
     text: &mut String,
-) -> Result<(), AllocError> {
+) -> Result<(), AllocError>
+    ensures { OnOk result (length (string_bytes text.new)
+        ≤ length (string_bytes text.old) + 150 + 2 * length out.old) }
+{
     let fields = match listing::list(recording, size, out) {
         Ok(listed) => [0, 0, listed.patterns, listed.bytes],
         Err(refusal) => refused(refusal),
@@ -75,7 +88,9 @@ pub fn tell_list(
 }
 
 // Tells the verdict of a pattern: 1 for deadlock.
-pub fn tell_verdict(recording: &[u8], pattern: &[u8], text: &mut String) -> Result<(), AllocError> {
+pub fn tell_verdict(recording: &[u8], pattern: &[u8], text: &mut String) -> Result<(), AllocError>
+    ensures { OnOk result (length (string_bytes text.new) ≤ length (string_bytes text.old) + 150) }
+{
     let fields = match deadlock::verdict(recording, pattern) {
         Ok(Verdict::Not) => [0, 0, 0],
         Ok(Verdict::Deadlock) => [0, 0, 1],
@@ -90,7 +105,10 @@ pub fn tell_witness(
     pattern: &[u8],
     out: &mut [u8],
     text: &mut String,
-) -> Result<(), AllocError> {
+) -> Result<(), AllocError>
+    ensures { OnOk result (length (string_bytes text.new)
+        ≤ length (string_bytes text.old) + 150 + 2 * length out.old) }
+{
     let fields = match deadlock::witness(recording, pattern, out) {
         Ok(None) => [0, 0, 0, 0],
         Ok(Some(bytes)) => [0, 0, 1, bytes],
@@ -105,7 +123,9 @@ pub fn tell_schedule(
     pattern: &[u8],
     schedule: &[u8],
     text: &mut String,
-) -> Result<(), AllocError> {
+) -> Result<(), AllocError>
+    ensures { OnOk result (length (string_bytes text.new) ≤ length (string_bytes text.old) + 150) }
+{
     let fields = match schedule::check_schedule(recording, pattern, schedule) {
         Ok(valid) => [0, 0, valid as u64],
         Err(refusal) => refused(refusal),
@@ -119,17 +139,18 @@ pub fn tell_clist(
     size: u64,
     out: &mut [u8],
     text: &mut String,
-) -> Result<(), AllocError> {
+) -> Result<(), AllocError>
+    ensures { OnOk result (length (string_bytes text.new)
+        ≤ length (string_bytes text.old) + 150 + 2 * length out.old) }
+{
     let number = hidzvoma::hidzvoma_list(recording, size, out);
     text::put_lending(text, &[number], out)
 }
 
 // Tells a verdict as a C program gets it.
-pub fn tell_cverdict(
-    recording: &[u8],
-    pattern: &[u8],
-    text: &mut String,
-) -> Result<(), AllocError> {
+pub fn tell_cverdict(recording: &[u8], pattern: &[u8], text: &mut String) -> Result<(), AllocError>
+    ensures { OnOk result (length (string_bytes text.new) ≤ length (string_bytes text.old) + 150) }
+{
     let number = hidzvoma::hidzvoma_verdict(recording, pattern);
     text::put_answer(text, &[number])
 }

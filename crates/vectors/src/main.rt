@@ -25,6 +25,8 @@ mod lines;
 mod spelling;
 mod text;
 
+ghost use Rattle.std.specs.Prelude.{◌≤◌, ◌≡◌, [], length, OnOk, string_bytes};
+
 use crate::lines::Ending;
 use std::alloc::{AllocError, Global};
 use std::io;
@@ -37,13 +39,25 @@ const PIECE: usize = 65536;
 const FULL: usize = 219850;
 
 // Writes the text out, and empties it; a write that fails is passed over.
-fn write_out(writer: &mut impl Write, text: &mut String) {
+fn write_out(writer: &mut impl Write, text: &mut String)
+    ensures { string_bytes text.new ≡ [] }
+{
     let _ = writer.write_all(text.as_bytes());
     text.clear();
 }
 
+// Writes the text out where another answer may not fit behind it into 400,000 bytes: none has more than
+// 180,150.
+fn spill(writer: &mut impl Write, text: &mut String)
+    ensures { length (string_bytes text.new) ≤ 219850 }
+{
+    if FULL < text.len() {
+        write_out(writer, text);
+    }
+}
+
 // Reads the next line, and puts its answer: what ended the reading.
-fn answer_line(
+fn put_line(
     alloc: Global,
     reader: &mut impl BufRead,
     line: &mut Vec<u8>,
@@ -60,6 +74,21 @@ fn answer_line(
     Ok(ending)
 }
 
+// Reads the next line, puts its answer, and keeps room for another answer behind it: what ended the reading.
+fn answer_line(
+    alloc: Global,
+    reader: &mut impl BufRead,
+    writer: &mut impl Write,
+    line: &mut Vec<u8>,
+    text: &mut String,
+) -> Result<Ending, AllocError>
+    ensures { OnOk result (length (string_bytes text.new) ≤ 219850) }
+{
+    let ending = put_line(alloc, reader, line, text)?;
+    spill(writer, text);
+    Ok(ending)
+}
+
 // Answers line after line, and writes the answers out. Nothing says that an input ends, so lines are counted,
 // up to a number that no run comes to.
 fn answer_lines(
@@ -70,11 +99,8 @@ fn answer_lines(
     let mut line = Vec::with_capacity(alloc, lines::TOO_LONG)?;
     let mut text = String::new(alloc);
     for _ in 0..u64::MAX {
-        if answer_line(alloc, reader, &mut line, &mut text)? == Ending::Input {
+        if answer_line(alloc, reader, writer, &mut line, &mut text)? == Ending::Input {
             break;
-        }
-        if FULL < text.len() {
-            write_out(writer, &mut text);
         }
     }
     write_out(writer, &mut text);

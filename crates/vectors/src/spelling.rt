@@ -1,5 +1,7 @@
 // What a word spells: bytes in lowercase hexadecimal, or a decimal number.
-use hex::FromHexError;
+ghost use Rattle.std.specs.Prelude.{◌*◌, ◌<◌, ◌≤◌, ◌≡◌, length, IfOk};
+ghost use Rattle.vectors.specs.declared.spelling.Fault.TheVariants.{OutOfMemory};
+
 use std::alloc::{AllocError, Global};
 use std::num::ParseIntError;
 use std::str::Utf8Error;
@@ -14,6 +16,8 @@ pub enum Fault {
 }
 
 impl From<AllocError> for Fault {
+    ghost from_gives = { λ e f. f ≡ OutOfMemory e };
+
     fn from(error: AllocError) -> Fault {
         Fault::OutOfMemory(error)
     }
@@ -31,22 +35,32 @@ impl From<ParseIntError> for Fault {
     }
 }
 
-impl From<FromHexError> for Fault {
-    fn from(_: FromHexError) -> Fault {
-        Fault::BadRequest
+// The value of a lowercase hexadecimal digit.
+fn digit(character: u8) -> Result<u8, Fault>
+    ensures { IfOk result (λ d. d < 16) }
+{
+    match character {
+        b'0'..=b'9' => Ok(character - b'0'),
+        b'a'..=b'f' => Ok(character - b'a' + 10),
+        _ => Err(Fault::BadRequest),
     }
 }
 
 // The bytes that a word spells: pairs of lowercase digits spell one each, and `-` none.
-pub fn decode_bytes(alloc: Global, word: &str) -> Result<Vec<u8>, Fault> {
+pub fn decode_bytes(alloc: Global, word: &str) -> Result<Vec<u8>, Fault>
+    ensures { IfOk result (λ bytes. 2 * length bytes.items ≤ length word.now) }
+{
     if word == "-" {
         return Ok(Vec::new(alloc));
     }
-    if word.is_empty() || word.bytes().any(|digit| digit.is_ascii_uppercase()) {
+    let (pairs, rest) = word.as_bytes().as_chunks::<2>();
+    if pairs.is_empty() || !rest.is_empty() {
         return Err(Fault::BadRequest);
     }
-    let mut bytes = vec![in alloc; 0; word.len() / 2]?;
-    hex::decode_to_slice(word, &mut bytes)?;
+    let mut bytes = vec![in alloc; 0; pairs.len()]?;
+    for (byte, [high, low]) in bytes.iter_mut().zip(pairs) {
+        *byte = 16 * digit(*high)? + digit(*low)?;
+    }
     Ok(bytes)
 }
 

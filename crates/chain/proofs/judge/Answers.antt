@@ -8,7 +8,6 @@ use Rattle.chain.proofs.judge.Goals as goal
 
 pub avoids-requires-clause-events : goal.avoids-requires-clause-events
 avoids-requires-clause-events c = λ i e h k.
-    let is : e ≡ get_or c.events-events.result.now i 0 = search rules in
-    let (x, y, z) = listed-event c.args.trace.now.records.bytes.now c.events-events.result.now i
-    (rw c.events-events.ensures.0 c.requires.0) h is in
+    let is : e ≡ get_or c.args.events.now i 0 = search rules in
+    let (x, y, z) = listed-event c.args.trace.now.records.bytes.now c.args.events.now i c.requires.0 h is in
     (x, z)

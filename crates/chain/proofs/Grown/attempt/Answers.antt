@@ -7,7 +7,7 @@ use borrow.Author.Rules.{rules}
 use Rattle.model.specs.Recording.{decode_all}
 use Rattle.laws.proofs.Trace.{record-event}
 use Rattle.recording.proofs.Accepted.{sound}
-use Rattle.chain.specs.Attempted.{chain_of}
+use Rattle.deadlock.specs.Judged.{of_events}
 use Rattle.chain.proofs.Laws.{begun, grow_reaches, attempted_nowhere, attempted_judged}
 use Rattle.chain.proofs.Grown.attempt.Goals as goal
 use Rattle.chain.proofs.Grown.attempt.Goals.{After-extend}
@@ -17,27 +17,27 @@ extend-requires c =
     let a = c.args in
     let (own, from) = begun a.self.now.last a.frontier.now c.task-own.ensures.1 c.keep.ensures
     c.get_or_insert_with.ensures.cases (λ p. search rules) in (
-      ⊎_elim (λ (q : c.get_or_insert_with.result.now.1 ≡ a.frontier.now). rw q c.requires.3.settled)
-          (λ q. let (d, low, less, same, before) = c.requires.4.again _ q in before.settled) from,
+      ⊎_elim (λ (q : c.get_or_insert_with.result.now.1 ≡ a.frontier.now). rw q c.requires.2.settled)
+          (λ q. let (d, low, less, same, before) = c.requires.3.again _ q in before.settled) from,
+      c.requires.4,
       c.requires.5,
-      c.requires.6,
     )
 
 pub returns-then-not-lock_in_mask : goal.returns-then-not-lock_in_mask
 returns-then-not-lock_in_mask c =
-    let a = c.args in
-    attempted_nowhere (decode_all a.trace.now.records.bytes.now) a.k (chain_of a.path.now) a.e a.self.now
-    a.back.now c.requires.0 (sym c.lock_in_mask.ensures ∙ c.if-not-lock_in_mask.true)
+    let a = c.args in λ d z.
+    attempted_nowhere (decode_all a.trace.now.records.bytes.now) a.k (of_events a.events.now d) a.e a.self.now
+    a.back.now z (sym c.lock_in_mask.ensures ∙ c.if-not-lock_in_mask.true)
 
 pub returns : goal.returns
 returns c =
     let a = c.args in
     let b = a.trace.now.records.bytes.now in
     let σ = decode_all b in
-    let event = record-event b a.e (c.requires.5, c.requires.6) in
+    let event = record-event b a.e (c.requires.4, c.requires.5) in
     let (own, from) = begun a.self.now.last a.frontier.now c.task-own.ensures.1 c.keep.ensures
     c.get_or_insert_with.ensures.cases (λ p. search rules) in
     let reached = grow_reaches σ (sound a.trace.now.records) a.e event a.frontier.now _
-    a.self.now from _ _ c.extend.ensures _ c.requires.1 c.requires.3 c.requires.4 in
-    rw c.judge.ensures (attempted_judged σ a.k (chain_of a.path.now) a.e a.self.now _ c.extend.new.self
-    (ap (λ (t : ℕ). Some (t, c.extend.new.self)) own) c.requires.1 event reached)
+    a.self.now from _ _ c.extend.ensures _ c.requires.0 c.requires.2 c.requires.3 in λ d z.
+    rw c.judge.ensures (attempted_judged σ a.k (of_events a.events.now d) a.e a.self.now _ c.extend.new.self
+    (ap (λ (t : ℕ). Some (t, c.extend.new.self)) own) c.requires.0 event reached)

@@ -23,7 +23,8 @@ is_acquire-requires c =
     let first : 1 ≤ c.args.e = omega (arith, c.if-e-eq0.false) in
     let last : c.args.e ≤ length (decode_all c.args.trace.now.records.bytes.now) =
     omega (arith, c.if-len-e.false, c.len.ensures) in
-    (first, omega (arith, last, decode_all-length c.args.trace.now.records.bytes.now), c.held.ensures)
+    let size = decode_all-length c.args.trace.now.records.bytes.now in
+    (first, omega (arith, last, size), c.args.trace.now.records.accepted, c.held.ensures)
 
 pub returns : goal.returns
 returns c =

@@ -11,7 +11,7 @@ use Rattle.order.proofs.Latest.awaited_by.Goals as goal
 
 pub returns-in-Read : goal.returns-in-Read
 returns-in-Read c =
-    read_awaits c.requires.2 c.in-Read.ensures c.object.ensures refl
+    read_awaits c.requires.3 c.in-Read.ensures c.object.ensures refl
 
 pub returns-in-Release : goal.returns-in-Release
 returns-in-Release c =

@@ -14,12 +14,12 @@ returns-then-o-lt64 c =
 
 pub last_of-requires : goal.last_of-requires
 last_of-requires c =
-    let r = c.requires.2 in
-    let known = names_task c.args.records.now c.args.e refl c.object-o.ensures (omega (arith, r))
+    let r = c.requires.3 in
+    let known = names_task c.args.records.now c.requires.2 c.args.e refl c.object-o.ensures (omega (arith, r))
     (omega (arith, r)) in
     omega (arith, c.if-o-lt64.false)
 
 pub returns : goal.returns
 returns c =
-    join_awaits _ c.args.e refl c.object-o.ensures c.requires.2 (omega (arith, c.if-o-lt64.false))
-    (c.last_of.ensures _ c.args.e c.requires.3)
+    join_awaits _ c.args.e refl c.object-o.ensures c.requires.3 (omega (arith, c.if-o-lt64.false))
+    (c.last_of.ensures _ c.args.e c.requires.4)

@@ -12,7 +12,8 @@ use Rattle.order.proofs.Latest.note.Goals.{In-Acquire}
 -- The object of an acquire record is a lock, or it stands for a task.
 small : (c : goal.In-Acquire) → c.object-o.result < 80
 small c =
-    names_task c.args.records.now c.args.e c.in-Acquire.ensures c.object-o.ensures (omega arith) (omega arith)
+    names_task c.args.records.now c.requires.3 c.args.e c.in-Acquire.ensures c.object-o.ensures (omega arith)
+    (omega arith)
 
 pub bounds-self-o-in-Acquire : goal.bounds-self-o-in-Acquire
 bounds-self-o-in-Acquire c =
@@ -20,24 +21,24 @@ bounds-self-o-in-Acquire c =
 
 pub returns-in-Write : goal.returns-in-Write
 returns-in-Write c =
-    write_noted c.requires.2 c.in-Write.ensures c.object-o.ensures
+    write_noted c.requires.4 c.in-Write.ensures c.object-o.ensures
     c.task.ensures refl
 
 pub returns-in-Acquire : goal.returns-in-Acquire
 returns-in-Acquire c =
-    start_noted c.requires.2 c.in-Acquire.ensures c.object-o.ensures
+    start_noted c.requires.4 c.in-Acquire.ensures c.object-o.ensures
     c.task.ensures refl c.if-o-ge64.true (small (goal.at.returns-in-Acquire c).In-Acquire)
 
 pub returns-else-o-ge64 : goal.returns-else-o-ge64
 returns-else-o-ge64 c =
     let k = c.operation.result in
-    event_alone c.requires.2 c.operation.ensures c.object-o.ensures
+    event_alone c.requires.4 c.operation.ensures c.object-o.ensures
     c.task.ensures (code_apart k Write c.in_default.not-Write)
     (is_start_lock _ c.args.e c.operation.ensures (omega (arith, c.object-o.ensures, c.if-o-ge64.false)))
 
 pub returns-in_default-other : goal.returns-in_default-other
 returns-in_default-other c =
     let k = c.operation.result in
-    event_alone c.requires.2 c.operation.ensures c.object-o.ensures
+    event_alone c.requires.4 c.operation.ensures c.object-o.ensures
     c.task.ensures (code_apart k Write c.in_default.not-Write)
     (is_start-none _ c.args.e c.operation.ensures (code_apart k Acquire c.in_default-other.not-Acquire))

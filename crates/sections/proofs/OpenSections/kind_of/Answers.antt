@@ -7,7 +7,7 @@ use Rattle.model.specs.Trace.{at}
 use Rattle.model.specs.Recording.{decode_all}
 use Rattle.laws.proofs.Trace.{record-event}
 use Rattle.laws.proofs.EventKinds.{kind_access}
-use Rattle.recording.proofs.Accepted.{sound}
+use Rattle.laws.proofs.Questions.{events_sound}
 use Rattle.recording.specs.declared.Op.TheVariants as Op
 use Rattle.recording.proofs.Laws.{code_lt, code_apart}
 use Rattle.sections.specs.declared.Kind.TheVariants.{Read, Write, Acquire, Release, Uncounted}
@@ -17,16 +17,15 @@ use Rattle.sections.proofs.OpenSections.kind_of.Goals as goal
 use Rattle.sections.proofs.OpenSections.kind_of.Goals.{After-operation}
 
 -- The event with its operation and object.
-coming : (c : goal.After-operation) {op : ℕ} → op ≡ (at (decode_all c.args.records.now.bytes.now) c.args.e).op
-    → op < 4
-    → Coming (decode_all c.args.records.now.bytes.now) c.args.e op c.object-l.result c.args.self.now.locks
+coming : (c : goal.After-operation) {op : ℕ} → op ≡ (at (decode_all c.args.records.now) c.args.e).op → op < 4
+    → Coming (decode_all c.args.records.now) c.args.e op c.object-l.result c.args.self.now.locks
 coming c is small =
-    let r = c.args.records.now in record {
-      sound = sound r;
-      event = record-event r.bytes.now c.args.e (c.requires.0, c.requires.1);
+    let b = c.args.records.now in record {
+      sound = events_sound b c.requires.2;
+      event = record-event b c.args.e (c.requires.0, c.requires.1);
       op_is = (small, is);
       object_is = c.object-l.ensures.1;
-      depths_are = c.requires.2;
+      depths_are = c.requires.4;
     }
 
 pub returns-in-Read : goal.returns-in-Read
@@ -51,13 +50,13 @@ pub returns-in-Acquire : goal.returns-in-Acquire
 returns-in-Acquire c =
     let u = coming (goal.at.returns-in-Acquire c).After-operation c.in-Acquire.ensures (omega arith) in
     of_kind u Acquire (enter_outer u c.if-l-ge64.false refl
-    (rw c.held_locks.ensures at (sym c.in_mask.ensures ∙ c.if-not-in_mask.true))).0
+    (rw c.requires.3 at (sym c.in_mask.ensures ∙ c.if-not-in_mask.true))).0
 
 pub returns-in_default-2 : goal.returns-in_default-2
 returns-in_default-2 c =
     let u = coming (goal.at.returns-in_default-2 c).After-operation c.in-Acquire.ensures (omega arith) in
     of_kind u Uncounted (enter_inner u c.if-l-ge64.false refl
-    (rw c.held_locks.ensures at (sym c.in_mask.ensures ∙ c.if-not-in_mask.false))).0
+    (rw c.requires.3 at (sym c.in_mask.ensures ∙ c.if-not-in_mask.false))).0
 
 pub returns-in-Release : goal.returns-in-Release
 returns-in-Release c =

@@ -2,6 +2,7 @@
 -- lock. Assumes nothing.
 use mathlib.Core.Path.{refl}
 use native.Mathlib.Omega.{arith}
+use borrow.Author.Rules.{rules}
 use Rattle.sections.specs.declared.Kind.TheVariants.{Release, Uncounted}
 use Rattle.sections.proofs.KindOf.{kind_apart}
 use Rattle.sections.proofs.Locks.{of_accepted, release_lock, release_match, uncounted_match, no_match}
@@ -13,7 +14,8 @@ bounds-self-object c =
 
 pub returns-in-Release : goal.returns-in-Release
 returns-in-Release c =
-    release_match (of_accepted c.args.records.now c.requires) c.object.ensures (rw c.in-Release.is refl)
+    release_match (of_accepted c.args.records.now c.requires) c.object.ensures c.args.self.now.locks
+    (search rules) c.requires.5 (rw c.in-Release.is refl)
 
 pub returns-in-Uncounted : goal.returns-in-Uncounted
 returns-in-Uncounted c = (

@@ -16,8 +16,8 @@ bounds-self-l c =
 
 pub returns-in-Acquire : goal.returns-in-Acquire
 returns-in-Acquire c =
-    acquire_noted (of_accepted c.args.records.now c.requires) c.object-l.ensures c.task-t.ensures
-    (rw c.in-Acquire.is refl)
+    acquire_noted (of_accepted c.args.records.now c.requires) c.object-l.ensures c.requires.5
+    c.task-t.ensures (rw c.in-Acquire.is refl)
 
 pub overflow_shl-self-in-Release : goal.overflow_shl-self-in-Release
 overflow_shl-self-in-Release c =
@@ -26,12 +26,12 @@ overflow_shl-self-in-Release c =
 
 pub returns-in-Release : goal.returns-in-Release
 returns-in-Release c =
-    release_noted (of_accepted c.args.records.now c.requires) c.object-l.ensures c.task-t.ensures
-    (rw c.in-Release.is refl)
+    release_noted (of_accepted c.args.records.now c.requires) c.object-l.ensures c.requires.5
+    c.task-t.ensures (rw c.in-Release.is refl)
 
 pub returns-in_default : goal.returns-in_default
 returns-in_default c =
     let d = c.in_default in
-    access_noted (of_accepted c.args.records.now c.requires) c.object-l.ensures
+    access_noted (of_accepted c.args.records.now c.requires) c.object-l.ensures c.requires.5
     (kind_apart c.args.k Acquire d.not-Acquire) (kind_apart c.args.k Release d.not-Release)
     (kind_apart c.args.k Uncounted d.not-Uncounted)

@@ -1,0 +1,2 @@
+-- What proofs of this crate's functions cite.
+pub mod Laws
