@@ -6,7 +6,7 @@ ghost use Rattle.std.specs.Prelude.{ℕ, suc, ◌+◌, ◌-◌, ◌*◌, ◌<◌
 ghost use Rattle.std.specs.Prelude.{length, get_or, replicate};
 ghost use Rattle.model.specs.Lists.{all, from};
 ghost use Rattle.model.specs.Answers.{closed_of};
-ghost use Rattle.model.specs.Trace.{task};
+ghost use Rattle.model.specs.Trace.{tasks, locks, task};
 ghost use Rattle.model.specs.Recording.{decode_all};
 ghost use Rattle.model.specs.EventSet.{members, set_length, lent_bit, lent_set, set_bytes};
 ghost use Rattle.model.specs.Closure.{closure};
@@ -43,28 +43,26 @@ fn wanted(trace: &Trace, words: &[u64; 64]) -> [u16; 16]
     want
 }
 
-// The frontier of the closure of the set in the words.
-fn reach(trace: &Trace, words: &[u64; 64]) -> Frontier
-    ensures { Closes (decode_all trace.now.records.bytes.now) words.now result.front }
+// Advances the frontier, of the set without events, to that of the closure of the set in the words.
+fn reach(trace: &Trace, words: &[u64; 64], frontier: &mut Frontier)
+    requires { frontier.old ≡ record { front = replicate tasks 0; latest = replicate locks 0 } }
+    ensures { Closes (decode_all trace.now.records.bytes.now) words.now frontier.new.front }
 {
-    let mut frontier = Frontier::empty();
     frontier.advance(trace, &mut wanted(trace, words));
-    frontier
 }
 
-// The set of the frontier.
-fn set_behind(trace: &Trace, frontier: &Frontier) -> [u64; 64]
-    ensures { (i : ℕ) → row_bit 64 result i
+// Puts the events of the frontier's set into an empty one.
+fn put_behind(trace: &Trace, frontier: &Frontier, words: &mut [u64; 64])
+    requires { words.old ≡ replicate 64 0 }
+    ensures { (i : ℕ) → row_bit 64 words.new i
         ≡ (ltb i (length (decode_all trace.now.records.bytes.now)) && leb (suc i)
         (get_or frontier.now.front (task (decode_all trace.now.records.bytes.now) (suc i)) 0)) }
 {
-    let mut words = [0; 64];
     for e in 1..trace.len() + 1 {
         if frontier.contains(trace.records.bytes, e) {
-            words::put(&mut words, e);
+            words::put(words, e);
         }
     }
-    words
 }
 
 // Closes a lent set, whose words these are: how many events that adds.
@@ -82,8 +80,10 @@ fn close_set(trace: &Trace, words: &[u64; 64], set: &mut [u8]) -> u64
         (closure (decode_all trace.now.records.bytes.now)
         (lent_set (decode_all trace.now.records.bytes.now) set.old)) }
 {
-    let frontier = reach(trace, words);
-    let closed = set_behind(trace, &frontier);
+    let mut frontier = Frontier::empty();
+    reach(trace, words, &mut frontier);
+    let mut closed = [0; 64];
+    put_behind(trace, &frontier, &mut closed);
     words::unpack(&closed, set);
     words::count(&closed) - words::count(words)
 }

@@ -5,7 +5,8 @@ use mathlib.Core.Path.{◌≡◌}
 use mathlib.Core.Bool.{Bool, true, false, cond, not, ◌&&◌}
 use mathlib.Core.List.{List}
 use native.Mathlib.Numerals.{add-one}
-use Rattle.std.specs.Prelude.{Some, None}
+use Rattle.std.specs.Prelude.{Some, None, Ok}
+use Rattle.model.specs.declared.Verdict.{Verdict}
 use Rattle.model.specs.declared.Verdict.TheVariants.{Not, Deadlock}
 use lib.Dec.{leb}
 use lib.ListN.{length, get_or, take}
@@ -19,7 +20,8 @@ use Rattle.laws.specs.Frontier.{wanted, Advanced, Before}
 use Rattle.laws.proofs.WellFormed.{WellFormed}
 use Rattle.laws.proofs.Before.{before-extend, before_deadlock}
 use Rattle.laws.proofs.Pattern.{lent_events}
-use Rattle.deadlock.specs.Judged.{judged}
+use Rattle.frontier.specs.declared.Frontier.{Frontier}
+use Rattle.deadlock.specs.Judged.{judged, Decided}
 
 module _ (σ : Trace) (ns : List ℕ) (i : ℕ) (inside : i < length ns) where
   -- One event more of the frontier's list.
@@ -47,3 +49,8 @@ module _ (σ : Trace) (p : List ℕ) where
     unfolding judged
     judged-verdict front latest v z q =
         rw (y, q, before_deadlock σ (numbers p) front latest z (lent_events σ p y))
+
+  -- The verdict that is decided.
+  pub decided-verdict : (v : Verdict) (f : Frontier) → Decided σ p (Ok v) f → judged σ p ≡ Some v
+  decided-verdict Not f d = d
+  decided-verdict Deadlock f d = d.0

@@ -35,11 +35,11 @@ pub record Reached (σ : Trace) (p front : List ℕ) : Type 0 where
   pub members : FrontOf σ p front
 
 -- What is said of the bytes of a pattern: that they are none, that the verdict is "not", or that it is
--- deadlock, with the frontier of the closure of the predecessors.
-abbrev pub Decided : Trace → List ℕ → Result (Option Frontier) Question → Type 0
-Decided σ p (Err q) = (q ≡ Pattern) × (judged σ p ≡ None)
-Decided σ p (Ok None) = judged σ p ≡ Some Not
-Decided σ p (Ok (Some f)) = (judged σ p ≡ Some Deadlock) × Reached σ (numbers p) f.front
+-- deadlock, where f is the frontier of the closure of the predecessors.
+abbrev pub Decided : Trace → List ℕ → Result Verdict Question → Frontier → Type 0
+Decided σ p (Err q) f = (q ≡ Pattern) × (judged σ p ≡ None)
+Decided σ p (Ok Not) f = judged σ p ≡ Some Not
+Decided σ p (Ok Deadlock) f = (judged σ p ≡ Some Deadlock) × Reached σ (numbers p) f.front
 
 -- Whatever is given by the places of a list below `count`, its length, are the numbers there.
 abbrev pub Gives : (ℕ → ℕ → Type 0) → ℕ → List ℕ → Type 0

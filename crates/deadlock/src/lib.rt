@@ -170,22 +170,17 @@ pub fn avoids<F: Fn(usize) -> u16>(
     true
 }
 
-// Decides the lent bytes: question 10, and of a deadlock the frontier of the closure of its events'
-// predecessors.
-pub fn decide(trace: &Trace, bytes: &[u8]) -> Result<Option<Frontier>, Question>
-    ensures { Decided (decode_all trace.now.records.bytes.now) bytes.now result }
+// Decides the lent bytes: question 10, and then the verdict. Of a deadlock the lent frontier becomes that of
+// the closure of its events' predecessors.
+pub fn decide(trace: &Trace, bytes: &[u8], frontier: &mut Frontier) -> Result<Verdict, Question>
+    ensures { Decided (decode_all trace.now.records.bytes.now) bytes.now result frontier.new }
 {
     let pattern = Pattern::read(trace, bytes)?;
-    let frontier = pattern.reach();
-    if avoids(
-        pattern.trace,
-        pattern.len(),
-        |i| pattern.event(i),
-        &frontier,
-    ) {
-        return Ok(Some(frontier));
+    pattern.reach(frontier);
+    if avoids(pattern.trace, pattern.len(), |i| pattern.event(i), frontier) {
+        return Ok(Verdict::Deadlock);
     }
-    Ok(None)
+    Ok(Verdict::Not)
 }
 
 // The verdict of a lent pattern: the recording's questions, question 10, then whether the closure of its
@@ -195,10 +190,8 @@ pub fn verdict(recording: &[u8], pattern: &[u8]) -> Result<Verdict, Refusal>
 {
     let records = Records::read(recording)?;
     let mut tables = Tables::blank();
-    match decide(&Trace::new(&records, &mut tables), pattern)? {
-        Some(_) => Ok(Verdict::Deadlock),
-        None => Ok(Verdict::Not),
-    }
+    let trace = Trace::new(&records, &mut tables);
+    Ok(decide(&trace, pattern, &mut Frontier::empty())?)
 }
 
 // How many events are in the set of the frontier.
@@ -269,9 +262,10 @@ fn witness_trace(trace: &Trace, pattern: &[u8], out: &mut [u8]) -> Result<Option
         (length out.old) }
     ensures output { out.new ≡ witness_out_from (decode_all trace.now.records.bytes.now) pattern.now out.old }
 {
-    match decide(trace, pattern)? {
-        None => Ok(None),
-        Some(frontier) => Ok(Some(deliver(trace, &frontier, out)?)),
+    let mut frontier = Frontier::empty();
+    match decide(trace, pattern, &mut frontier)? {
+        Verdict::Not => Ok(None),
+        Verdict::Deadlock => Ok(Some(deliver(trace, &frontier, out)?)),
     }
 }
 

@@ -93,15 +93,16 @@ impl<'a> Pattern<'a> {
         recording::number(self.bytes, i)
     }
 
-    // The frontier of the closure of the events' predecessors, to which it advances event by event.
-    pub fn reach(&self) -> Frontier
+    // Makes the lent frontier that of the closure of the events' predecessors, to which it advances event by
+    // event from that of the set without events.
+    pub fn reach(&self, frontier: &mut Frontier)
         ensures { Before (decode_all self.now.trace.now.records.bytes.now) (numbers self.now.bytes.now)
-            result.front result.latest }
+            frontier.new.front frontier.new.latest }
     {
-        let mut frontier = Frontier::empty();
+        frontier.front = [0; 16];
+        frontier.latest = [0; 64];
         for i in 0..self.len() {
             frontier.extend(self.trace, self.event(i) as usize);
         }
-        frontier
     }
 }

@@ -8,7 +8,7 @@ use Rattle.frontier.specs.declared.Advance.{Advance}
 
 -- The advance goes on: what it wants is ahead of its frontier, all of whose set has been visited.
 abbrev pub Underway : Trace → Advance → Type 0
-Underway σ a = Settled σ a.frontier.front a.want a.frontier.latest
+Underway σ a = Settled σ a.front a.want a.latest
 
 -- The advance, when event e of task t is wanted as well,
 abbrev pub after_raise : Advance → ℕ → ℕ → Advance
@@ -37,16 +37,16 @@ latest_with σ latest f = cond (is_acquire σ f) (raised latest (object σ f) f)
 
 -- The advance, when the outer acquire f is visited,
 abbrev pub after_acquire : Trace → Advance → ℕ → Advance
-after_acquire σ a f = record {
-  frontier = record a.frontier { latest = raised a.frontier.latest (object σ f) f };
-  want = wanted_earlier σ a.want (get_or a.frontier.latest (object σ f) 0) f;
+after_acquire σ a f = record a {
+  latest = raised a.latest (object σ f) f;
+  want = wanted_earlier σ a.want (get_or a.latest (object σ f) 0) f;
 }
 
 -- and when event f is.
 abbrev pub after_visit : Trace → Advance → ℕ → Advance
-after_visit σ a f = record {
-  frontier = record a.frontier { latest = latest_with σ a.frontier.latest f };
-  want = wanted_with σ a.want a.frontier.latest f;
+after_visit σ a f = record a {
+  latest = latest_with σ a.latest f;
+  want = wanted_with σ a.want a.latest f;
 }
 
 -- The first task whose wanted event the frontier has not reached, or that there is none.

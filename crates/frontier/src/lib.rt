@@ -26,7 +26,8 @@ pub struct Frontier {
 // A frontier on its way to that of a closed set, and of each task the event that it is to reach.
 #[derive(Drop)]
 struct Advance {
-    frontier: Frontier,
+    front: [u16; 16],
+    latest: [u16; 64],
     want: [u16; 16],
 }
 
@@ -36,7 +37,9 @@ impl Advance {
         requires { t < tasks }
         ensures { self.new ≡ after_raise self.old t e }
     {
-        self.want[t] = self.want[t].max(e);
+        if self.want[t] < e {
+            self.want[t] = e;
+        }
     }
 
     // Wants the match of event e, or of one that does not count its own number.
@@ -68,12 +71,12 @@ impl Advance {
         ensures { self.new ≡ after_acquire (decode_all trace.now.records.bytes.now) self.old f }
     {
         let l = trace.object(f as usize) as usize;
-        let top = self.frontier.latest[l];
+        let top = self.latest[l];
         if f <= top {
             self.want_match(trace, f);
             return;
         }
-        self.frontier.latest[l] = f;
+        self.latest[l] = f;
         if top == 0 {
             return;
         }
@@ -100,13 +103,13 @@ impl Advance {
     // which is then wanted.
     fn begin(&mut self, trace: &Trace, t: usize) -> u16
         requires { t < tasks }
-        ensures end { result ≡ cond (eqb (get_or self.old.frontier.front t 0) 0)
-            (start_in (decode_all trace.now.records.bytes.now) t) (get_or self.old.frontier.front t 0) }
+        ensures end { result ≡ cond (eqb (get_or self.old.front t 0) 0)
+            (start_in (decode_all trace.now.records.bytes.now) t) (get_or self.old.front t 0) }
         ensures wanted { self.new ≡ after_want (decode_all trace.now.records.bytes.now) self.old
-            (cond (eqb (get_or self.old.frontier.front t 0) 0)
+            (cond (eqb (get_or self.old.front t 0) 0)
             (start_in (decode_all trace.now.records.bytes.now) t) 0) }
     {
-        let at = self.frontier.front[t];
+        let at = self.front[t];
         if at != 0 {
             return at;
         }
@@ -116,41 +119,39 @@ impl Advance {
     }
 
     // A turn of task t: the frontier moves to its wanted event, and each event of the task that it passes is
-    // visited. Its predecessor is looked up before, so that the walk does not wait for the visit.
+    // visited.
     fn turn(&mut self, trace: &Trace, t: usize)
         requires { Underway (decode_all trace.now.records.bytes.now) self.old × (t < tasks)
-            × (get_or self.old.frontier.front t 0 < get_or self.old.want t 0) }
-        ensures { Turned (decode_all trace.now.records.bytes.now) self.old.frontier.front self.old.want t
-            self.new.frontier.front self.new.want self.new.frontier.latest }
+            × (get_or self.old.front t 0 < get_or self.old.want t 0) }
+        ensures { Turned (decode_all trace.now.records.bytes.now) self.old.front self.old.want t
+            self.new.front self.new.want self.new.latest }
     {
         let mut f = self.want[t];
         let end = self.begin(trace, t);
-        self.frontier.front[t] = f;
+        self.front[t] = f;
         while end < f {
-            let next = trace.predecessor(f as usize);
             self.visit(trace, f);
-            f = next;
+            f = trace.predecessor(f as usize);
         }
     }
 
     // The first task whose wanted event the frontier has not reached, if any.
     fn unreached(&self) -> Option<usize>
-        ensures { Unreached self.now.frontier.front self.now.want result }
+        ensures { Unreached self.now.front self.now.want result }
     {
-        self.frontier
-            .front
+        self.front
             .iter()
             .zip(self.want.iter())
             .position(|(at, wanted)| at < wanted)
     }
 
     // Advances the frontier to that of the smallest closed set with the wanted events, task by task, until
-    // none has more to reach. Inlined, it would be compiled to look up predecessors after the visits.
+    // none has more to reach. It is compiled once for all who advance one.
     #[inline(never)]
     fn run(&mut self, trace: &Trace)
         requires { Underway (decode_all trace.now.records.bytes.now) self.old }
-        ensures { Advanced (decode_all trace.now.records.bytes.now) self.old.want self.new.frontier.front
-            self.new.frontier.latest × (self.new.want ≡ self.new.frontier.front) }
+        ensures { Advanced (decode_all trace.now.records.bytes.now) self.old.want self.new.front
+            self.new.latest × (self.new.want ≡ self.new.front) }
     {
         while let Some(t) = self.unreached() {
             self.turn(trace, t);
@@ -177,11 +178,13 @@ impl Frontier {
             × (want.new ≡ self.new.front) }
     {
         let mut advance = Advance {
-            frontier: *self,
+            front: self.front,
+            latest: self.latest,
             want: *want,
         };
         advance.run(trace);
-        *self = advance.frontier;
+        self.front = advance.front;
+        self.latest = advance.latest;
         *want = advance.want;
     }
 
@@ -195,12 +198,14 @@ impl Frontier {
             (predecessor (decode_all trace.now.records.bytes.now) e)) self.new.front self.new.latest }
     {
         let mut advance = Advance {
-            frontier: *self,
+            front: self.front,
+            latest: self.latest,
             want: self.front,
         };
         advance.want_event(trace, trace.predecessor(e));
         advance.run(trace);
-        *self = advance.frontier;
+        self.front = advance.front;
+        self.latest = advance.latest;
     }
 
     // Event e is in the set.

@@ -102,8 +102,9 @@ impl Latest {
         ensures { LatestBefore (decode_all records.now) (e + 1) self.new }
     {
         let o = recording::object(records, e) as usize;
+        let op = recording::operation(records, e);
         self.tasks[recording::task(records, e) as usize].event = e as u16;
-        match recording::operation(records, e) {
+        match op {
             Op::Write => self.writes[o] = e as u16,
             other => {
                 if 64 <= o {

@@ -131,14 +131,6 @@ pub fn object(records: &[u8], e: usize) -> u16
     (((records[at] & 3) as u16) << 8) | (records[at + 1] as u16)
 }
 
-// The lock that event e names.
-fn lock(records: &[u8], e: usize) -> usize
-    requires { (1 ≤ e) × (2 * e ≤ length records.now) × (object (decode_all records.now) e < locks) }
-    ensures { (result < locks) × (result ≡ object (decode_all records.now) e) }
-{
-    object(records, e) as usize
-}
-
 // The task that event e starts or joins: what its object stands for, if it does.
 fn target(records: &[u8], e: usize) -> Option<usize>
     requires { (1 ≤ e) × (2 * e ≤ length records.now) × (locks ≤ object (decode_all records.now) e) }
@@ -163,15 +155,15 @@ pub fn in_mask(mask: u64, l: u64) -> bool
 impl Locks {
     // Puts question 5 to acquire e: its task is then the holder of its lock, one deeper. A depth is at most
     // e, so it fits.
-    fn enter(&mut self, records: &Unasked, e: usize) -> Result<(), Question>
+    fn enter(&mut self, records: &Unasked, e: usize, l: usize) -> Result<(), Question>
         requires { (1 ≤ e) × (2 * e ≤ length records.now.bytes.now)
             × T (enters (decode_all records.now.bytes.now) e)
+            × (l < locks) × (l ≡ object (decode_all records.now.bytes.now) e)
             × Holders (decode_all records.now.bytes.now) e self.old.holders self.old.depths }
         ensures fault { fault_of result ≡ cond (is_free (decode_all records.now.bytes.now) e) 0 5 }
         ensures held { OnOk result
             (Holders (decode_all records.now.bytes.now) (e + 1) self.new.holders self.new.depths) }
     {
-        let l = lock(records.bytes, e);
         let own = task(records.bytes, e) + 1;
         if self.holders[l] == 0 {
             self.holders[l] = own;
@@ -186,16 +178,16 @@ impl Locks {
 
     // Puts question 6 to release e: its task is then one less deep in its lock, and at depth 0 the holder no
     // more.
-    fn leave(&mut self, records: &Unasked, e: usize) -> Result<(), Question>
+    fn leave(&mut self, records: &Unasked, e: usize, l: usize) -> Result<(), Question>
         requires { (1 ≤ e) × (2 * e ≤ length records.now.bytes.now)
             × T (leaves (decode_all records.now.bytes.now) e)
+            × (l < locks) × (l ≡ object (decode_all records.now.bytes.now) e)
             × Holders (decode_all records.now.bytes.now) e self.old.holders self.old.depths }
         ensures fault { fault_of result ≡ cond (holds (decode_all records.now.bytes.now) e
             (task (decode_all records.now.bytes.now) e) (object (decode_all records.now.bytes.now) e)) 0 6 }
         ensures held { OnOk result
             (Holders (decode_all records.now.bytes.now) (e + 1) self.new.holders self.new.depths) }
     {
-        let l = lock(records.bytes, e);
         if self.holders[l] != task(records.bytes, e) + 1 {
             return Err(Question::LockHeld);
         }
@@ -229,8 +221,8 @@ impl Past {
                     return Ok(Asked::Lockless);
                 }
                 match op {
-                    Op::Acquire => self.locks.enter(records, e)?,
-                    _ => self.locks.leave(records, e)?,
+                    Op::Acquire => self.locks.enter(records, e, at)?,
+                    _ => self.locks.leave(records, e, at)?,
                 }
             }
         }

@@ -127,7 +127,7 @@ module _ {σ : Trace} {e : ℕ} {tables : Tables} (z : Noted σ e tables) (long 
 
 -- After the last event each row has the relations of its event.
 pub noted_end : {σ : Trace} {e : ℕ} {tables : Tables} {walk : Walk} → Noted σ e tables → Walked σ e walk
-    → e ≡ suc (length σ) → Tabled σ (record tables { tasks = walk.latest.tasks })
+    → e ≡ suc (length σ) → Tabled σ (record tables { tasks = walk.latest.now.tasks })
 noted_end {σ} {walk = walk} z w last = record {
   held_at = λ f i. (z.at f i.0 (omega (arith, i, last))).held_is;
   predecessor_at = λ f i. (z.at f i.0 (omega (arith, i, last))).predecessor_is;

@@ -57,5 +57,5 @@ pub record Noted (σ : Trace) (e : ℕ) (tables : Tables) : Type 0 where
 
 -- and the walk has what noting event e asks for.
 pub record Walked (σ : Trace) (e : ℕ) (walk : Walk) : Type 0 where
-  pub section : OpenBefore σ e walk.sections
-  pub latest : LatestBefore σ e walk.latest
+  pub section : OpenBefore σ e walk.sections.now
+  pub latest : LatestBefore σ e walk.latest.now

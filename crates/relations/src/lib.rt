@@ -50,14 +50,15 @@ struct Row {
     matching: u16,
 }
 
-// What the rows of later events ask for of the earlier ones.
+// What the rows of later events ask for of the earlier ones. Both are lent: as values they would be moved here
+// by a call of memcpy.
 #[derive(Drop)]
-struct Walk {
-    sections: OpenSections,
-    latest: Latest,
+struct Walk<'a> {
+    sections: &'a mut OpenSections,
+    latest: &'a mut Latest,
 }
 
-impl Walk {
+impl<'a> Walk<'a> {
     // The row of event e, of kind k and with these held locks, as far as the events to it show its match.
     fn row_of(&self, records: &Records, e: usize, mask: u64, k: Kind) -> Row
         requires { (1 ≤ e) × (2 * e ≤ length records.now.bytes.now)
@@ -75,6 +76,7 @@ impl Walk {
     }
 
     // Notes event e in its row; an outer release is then also the match of its acquire.
+    #[inline(always)]
     fn note(&mut self, records: &Records, e: usize, tables: &mut Tables)
         requires { (1 ≤ e) × (2 * e ≤ length records.now.bytes.now)
             × Walked (decode_all records.now.bytes.now) e self.old
@@ -85,8 +87,8 @@ impl Walk {
         let mask = self.sections.held_locks(records.bytes, e);
         let kind = self.sections.kind_of(records.bytes, e, mask);
         let row = self.row_of(records, e, mask, kind);
-        self.sections.note(records.bytes, e, kind);
         self.latest.note(records.bytes, e);
+        self.sections.note(records.bytes, e, kind);
         tables.put(e, &row);
         match kind {
             Kind::Release => tables.matches[row.matching as usize] = e as u16,
@@ -120,16 +122,24 @@ impl Tables {
         self.matches[e] = row.matching;
     }
 
-    // Fills the tables of accepted records: one pass, each event noted in turn.
+    // Fills the tables of accepted records: one pass, each event noted in turn. The arms are alike, so that a
+    // turn is compiled for each operation, and what it does to all tables is chosen by one test.
     fn fill(&mut self, records: &Records)
         ensures { Tabled (decode_all records.now.bytes.now) self.new }
     {
+        let mut sections = OpenSections::new();
+        let mut latest = Latest::new();
         let mut walk = Walk {
-            sections: OpenSections::new(),
-            latest: Latest::new(),
+            sections: &mut sections,
+            latest: &mut latest,
         };
         for e in 1..records.len() + 1 {
-            walk.note(records, e, self);
+            match recording::operation(records.bytes, e) {
+                Op::Read => walk.note(records, e, self),
+                Op::Write => walk.note(records, e, self),
+                Op::Acquire => walk.note(records, e, self),
+                Op::Release => walk.note(records, e, self),
+            }
         }
         self.tasks = walk.latest.tasks;
     }

@@ -20,7 +20,7 @@ use Rattle.laws.proofs.Schedule.{may_follow_iff}
 use Rattle.schedule.specs.declared.Progress.{Progress}
 use Rattle.schedule.specs.Listed.{UpTo, Listed, Kept}
 use Rattle.schedule.proofs.Asking.{Answers}
-use Rattle.schedule.proofs.Noting.{empty, listed_start, Notes}
+use Rattle.schedule.proofs.Noting.{Notes}
 
 -- The walk has come to number i of the schedule. The rest decides; with what is listed it is the schedule.
 pub record Walking (σ : Trace) (ρ : List ℕ) (i : ℕ) (p : Progress) : Type 0 where
@@ -61,9 +61,9 @@ follows_in b before e t =
     )
 
 -- At the start nothing is listed.
-pub walking_start : (σ : Trace) (ρ : List ℕ) → Walking σ ρ 0 empty
+pub walking_start : (σ : Trace) (ρ : List ℕ) (p : Progress) → Listed σ [] p → Walking σ ρ 0 p
 unfolding sync_preserving
-walking_start σ ρ = record { before = []; tables = listed_start σ; decides = refl; covers = λ e. refl }
+walking_start σ ρ p tables = record { before = []; tables = tables; decides = refl; covers = λ e. refl }
 
 -- A turn of the walk: number e stands at i, and r is answered for it.
 pub record Turn (σ : Trace) (s : List ℕ) (i : ℕ) (p : Progress) (e : ℕ) (r : Bool)

@@ -2,8 +2,7 @@
 // events of a pattern next. It walks through the schedule once, with three tables of what is listed.
 #![tactic(auto)]
 
-ghost use Rattle.std.specs.Prelude.{ℕ, ◌*◌, ◌<◌, ◌≤◌, ◌≡◌, ◌&&◌, false, List, ◌∷◌, T, length, get_or};
-ghost use Rattle.std.specs.Prelude.{MatchOption};
+ghost use Rattle.std.specs.Prelude.{ℕ, ◌*◌, ◌<◌, ◌≤◌, ◌≡◌, ◌&&◌, true, List, [], ◌∷◌, T, length, get_or};
 ghost use Rattle.model.specs.Lists.{all};
 ghost use Rattle.model.specs.Trace.{locks, object};
 ghost use Rattle.model.specs.Recording.{decode_all};
@@ -142,27 +141,25 @@ impl Progress {
         }
         true
     }
-}
 
-// What is listed after the schedule, if it is order-keeping: each number may follow those before it.
-fn keeps_order(trace: &Trace, schedule: &[u8]) -> Option<Progress>
-    ensures { MatchOption result
-        (sync_preserving (decode_all trace.now.records.bytes.now) (numbers schedule.now) ≡ false)
-        (Kept (decode_all trace.now.records.bytes.now) (numbers schedule.now)) }
-{
-    let mut progress = Progress {
-        last: [0; 16],
-        acquires: [0; 64],
-        writes: [0; 1024],
-    };
-    for i in 0..schedule.len() / 2 {
-        let e = recording::number(schedule, i);
-        if !progress.follows(trace, e) {
-            return None;
+    // Lists the schedule, where nothing is listed yet: whether it is order-keeping, so that each number may
+    // follow those before it.
+    fn keeps_order(&mut self, trace: &Trace, schedule: &[u8]) -> bool
+        requires { Listed (decode_all trace.now.records.bytes.now) [] self.old }
+        ensures answer { result
+            ≡ sync_preserving (decode_all trace.now.records.bytes.now) (numbers schedule.now) }
+        ensures kept { result ≡ true
+            → Kept (decode_all trace.now.records.bytes.now) (numbers schedule.now) self.new }
+    {
+        for i in 0..schedule.len() / 2 {
+            let e = recording::number(schedule, i);
+            if !self.follows(trace, e) {
+                return false;
+            }
+            self.note(trace, e);
         }
-        progress.note(trace, e);
+        true
     }
-    Some(progress)
 }
 
 // Whether the schedule witnesses the pattern: its length is even, it is order-keeping, and it leaves every
@@ -175,10 +172,15 @@ pub fn witnessed(pattern: &Pattern, schedule: &[u8]) -> bool
     if schedule.len() % 2 != 0 {
         return false;
     }
-    match keeps_order(pattern.trace, schedule) {
-        None => false,
-        Some(progress) => progress.leaves_next(pattern),
+    let mut progress = Progress {
+        last: [0; 16],
+        acquires: [0; 64],
+        writes: [0; 1024],
+    };
+    if !progress.keeps_order(pattern.trace, schedule) {
+        return false;
     }
+    progress.leaves_next(pattern)
 }
 
 // Checks a proposed schedule for a lent pattern: question 10, then whether the schedule is order-keeping and

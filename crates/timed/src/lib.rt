@@ -14,7 +14,7 @@ ghost use Rattle.model.specs.Calls.Witness.{witness, witness_out};
 ghost use Rattle.model.specs.Calls.CheckSchedule.{check_schedule};
 
 use frontier::Frontier;
-use model::Question;
+use model::{Question, Verdict};
 use recording::Records;
 use relations::{Tables, Trace};
 
@@ -70,10 +70,10 @@ pub extern "C" fn timed_tables(recording: &[u8]) -> u64
 }
 
 // Decides the pattern again and again: what was decided last.
-fn decide_often(trace: &Trace, pattern: &[u8], rounds: u64) -> Result<Option<Frontier>, Question> {
+fn decide_often(trace: &Trace, pattern: &[u8], rounds: u64) -> Result<Verdict, Question> {
     let mut decided = Err(Question::Pattern);
     for _ in 0..rounds {
-        decided = deadlock::decide(trace, pattern);
+        decided = deadlock::decide(trace, pattern, &mut Frontier::empty());
     }
     decided
 }
@@ -91,8 +91,8 @@ pub extern "C" fn timed_verdicts(recording: &[u8], pattern: &[u8], rounds: u64) 
     };
     match decided {
         Err(_) => 0,
-        Ok(None) => 1,
-        Ok(Some(_)) => 2,
+        Ok(Verdict::Not) => 1,
+        Ok(Verdict::Deadlock) => 2,
     }
 }
 

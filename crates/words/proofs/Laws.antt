@@ -10,10 +10,10 @@ use native.Mathlib.Nat.{add-zero, pow-suc}
 use native.Mathlib.Numerals.{add-one}
 use lib.Count.{ones}
 use lib.Dec.{ltb}
-use lib.ListN.{length, get_or, set, take, drop, replicate, get_or-eq_default, get_or-append}
+use lib.ListN.{length, get_or, set, take, drop, get_or-eq_default}
 use lib.ListN.{length-append, length-drop}
 use lib.Pow.{pow-add}
-use lib.Seq.{get_or-set_same, get_or-set_other, get_or-append_right, get_or-take, get_or-drop, drop-drop}
+use lib.Seq.{get_or-set_same, get_or-set_other, get_or-take, get_or-drop, drop-drop}
 use lib.Seq.{take-length, take-append_seam, drop-append_seam}
 use borrow.Author.Tests.{lt-ltb, le-ltb}
 use Rattle.std.specs.Int.{w64, byte_at, bytes_high_first, to_be_bytes, from_be_bytes}
@@ -24,7 +24,7 @@ use Rattle.std.proofs.lemmas.Nat.{be_bytes_8}
 use Rattle.model.specs.Lists.{has_bit, filter, from}
 use Rattle.laws.specs.BitRow.{row_bit}
 use Rattle.laws.proofs.Tests.{equal?, at-most?, T-ext, tests}
-use Rattle.laws.proofs.Lists.{from_split, zeros}
+use Rattle.laws.proofs.Lists.{from_split}
 use Rattle.laws.proofs.Filters.{filter-append}
 use Rattle.laws.proofs.Bits.{has_bit-none}
 use Rattle.laws.proofs.BitShifts.{has_bit_shr, has_bit_low}
@@ -76,29 +76,18 @@ word_row n i h =
 
 -- ---- bytes into words
 
-padded_at : (b : List ℕ) (m n k : ℕ) → get_or (b ++ drop m (replicate n 0)) k 0 ≡ get_or b k 0
-padded_at b m n k = ⊎_elim beyond (get_or-append b (drop m (replicate n 0)) 0 k) (at-most? (length b) k)
-  where
-    beyond : length b ≤ k → get_or (b ++ drop m (replicate n 0)) k 0 ≡ get_or b k 0
-    beyond l =
-        rw (
-          get_or-append_right b (drop m (replicate n 0)) k 0 l,
-          get_or-drop {A = ℕ} m (replicate n 0) (k - length b) 0,
-          zeros n (m + (k - length b)),
-        )
-        (sym (get_or-eq_default b 0 l))
-
--- A word made of up to eight bytes, and zeros after them, has the row of these bytes.
-pub row_word : (n : ℕ) (b : List ℕ) → length b ≤ 8 → ((k : ℕ) → get_or b k 0 < 256)
-    → n ≡ from_be_bytes w64 (b ++ drop (length b) (replicate 8 0)) → (i : ℕ) → i < 64
+-- A word made of eight bytes, which are up to eight others and zeros after them, has the row of these.
+pub row_word : (n : ℕ) (b p : List ℕ) → length p ≡ 8 → ((k : ℕ) → get_or b k 0 < 256)
+    → ((k : ℕ) → k < 8 → get_or p k 0 ≡ get_or b k 0) → n ≡ from_be_bytes w64 p → (i : ℕ) → i < 64
     → has_bit n (63 - i) ≡ row_bit 8 b i
-row_word n b fits small q i h =
-    let clear : List ℕ = drop (length b) (replicate 8 0) in
-    let left : length clear ≡ 8 - length b = length-drop {A = ℕ} (length b) (replicate 8 0) in
-    let long : length (b ++ clear) ≡ 8 = omega (arith, length-append b clear) in
-    let bytes = be_bytes_8 (b ++ clear) n long (λ k. rw (padded_at b (length b) 8 k) (small k)) q in
-    sym (word_row n i h) ∙ ap (λ (l : List ℕ). row_bit 8 l i) bytes
-    ∙ ap (λ (x : ℕ). has_bit x (7 - i % 8)) (padded_at b (length b) 8 (i / 8))
+row_word n b p long small padded q i h =
+    sym (word_row n i h) ∙ ap (λ (l : List ℕ). row_bit 8 l i) (be_bytes_8 p n long below q)
+    ∙ ap (λ (x : ℕ). has_bit x (7 - i % 8)) (padded (i / 8) (omega arith))
+  where
+    below : (k : ℕ) → get_or p k 0 < 256
+    below k =
+        ⊎_elim (λ (l : 8 ≤ k). rw (get_or-eq_default p 0 {n = k} (rw long l)) (omega arith))
+        (λ (l : k < 8). rw (padded k l) (small k)) (at-most? 8 k)
 
 -- The first k words have the row of the bytes, and the others no bit.
 abbrev pub Packed : List ℕ → List ℕ → ℕ → Type 0

@@ -29,7 +29,9 @@ fn word_of(bytes: &[u8]) -> u64
     ensures { (i : ℕ) → i < 64 → has_bit result (63 - i) ≡ row_bit 8 bytes.now i }
 {
     let mut padded = [0; 8];
-    padded[..bytes.len()].copy_from_slice(bytes);
+    for (k, byte) in padded.iter_mut().enumerate() {
+        *byte = if k < bytes.len() { bytes[k] } else { 0 };
+    }
     u64::from_be_bytes(padded)
 }
 

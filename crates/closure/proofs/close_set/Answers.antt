@@ -28,14 +28,14 @@ after : (c : goal.After-count-2)
     → let σ = decode_all c.args.trace.now.records.bytes.now in
     c.count.result ≡ length (members σ (closure σ (lent_set σ c.args.set.now)))
 after c =
-    let q = c.set_behind-closed in
-    let r = c.reach-frontier in
+    let q = c.put_behind in
+    let r = c.reach in
     let records = c.args.trace.now.records in
     let σ = decode_all records.bytes.now in
-    let small : length σ ≤ 64 * length q.result =
+    let small : length σ ≤ 64 * length q.new.words =
     omega (arith, records.short, decode_all-length records.bytes.now) in
     c.count.ensures
-    ∙ count_closed σ c.args.set.now c.args.words.now c.requires.1 r.result.front q.result
+    ∙ count_closed σ c.args.set.now c.args.words.now c.requires.1 r.new.frontier.front q.new.words
     r.ensures q.ensures _ small
 
 pub unpack-requires : goal.unpack-requires
@@ -61,7 +61,7 @@ returns c =
       answer = ap₂ ◌-◌ (after (goal.at.returns c).After-count-2)
           (before (goal.at.returns c).After-count-2);
       output = bytes_closed (decode_all c.args.trace.now.records.bytes.now) set c.args.words.now c.requires.1
-          c.reach-frontier.result.front c.set_behind-closed.result c.reach-frontier.ensures
-          c.set_behind-closed.ensures bytes (long ∙ c.requires.0) (λ k. (c.type_inv.set k).fits)
+          c.reach.new.frontier.front c.put_behind.new.words c.reach.ensures
+          c.put_behind.ensures bytes (long ∙ c.requires.0) (λ k. (c.type_inv.set k).fits)
           (λ i h. c.unpack.ensures i (omega (arith, long)));
     }

@@ -12,7 +12,7 @@ pub advance-requires : goal.advance-requires
 advance-requires c =
     let σ = decode_all c.args.trace.now.records.bytes.now in
     let want = c.wanted.result in
-    rw c.empty-frontier.ensures
+    rw c.requires
     (settled-start σ _ want _ (wanted_frontier σ c.args.words.now want (search rules) c.wanted.ensures)
     refl refl)
 

@@ -16,10 +16,10 @@ use Rattle.deadlock.proofs.decide.Goals.{After-avoids}
 
 -- The frontier is that of the lent pattern.
 reached : (c : After-avoids) → Before (decode_all c.args.trace.now.records.bytes.now)
-    (numbers c.args.bytes.now) c.reach-frontier.result.front c.reach-frontier.result.latest
+    (numbers c.args.bytes.now) c.reach.new.frontier.front c.reach.new.frontier.latest
 reached c =
     let (trace, bytes) = c.in_ok-pattern.ensures.gives in
-    rw (trace, bytes) at c.reach-frontier.ensures
+    rw (trace, bytes) at c.reach.ensures
 
 -- What the test of its events tells is the verdict.
 decides : (c : After-avoids) → judged (decode_all c.args.trace.now.records.bytes.now) c.args.bytes.now

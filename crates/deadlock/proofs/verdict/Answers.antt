@@ -4,6 +4,7 @@ use mathlib.Core.Path.{sym}
 use Rattle.model.specs.Refused.{refusal}
 use Rattle.laws.proofs.Results.{passed_on, is_refused, is_passed}
 use Rattle.deadlock.proofs.Answers.{verdict_unchecked, verdict_accepted}
+use Rattle.deadlock.proofs.Verdicts.{decided-verdict}
 use Rattle.deadlock.proofs.verdict.Goals as goal
 
 pub returns-in_err-records : goal.returns-in_err-records
@@ -14,7 +15,7 @@ returns-in_err-records c =
 
 pub returns-in_err-decide : goal.returns-in_err-decide
 returns-in_err-decide c =
-    let (q, none) = rw (c.new.ensures, c.in_ok-records.ensures.events) at c.in_err-decide.ensures in
+    let (q, none) = rw (c.new-trace.ensures, c.in_ok-records.ensures.events) at c.in_err-decide.ensures in
     let is = verdict_accepted c.args.recording.now c.args.pattern.now
     (is_passed _ c.in_ok-records.ensures.outcome) in
     rw (
@@ -23,16 +24,9 @@ returns-in_err-decide c =
       q,
     ) (rw none at is)
 
-pub returns-in-Some : goal.returns-in-Some
-returns-in-Some c =
-    let (some, z) = rw (c.in-Some.is, c.new.ensures, c.in_ok-records.ensures.events)
-    at c.in_ok-decide.ensures in
-    rw some at (verdict_accepted c.args.recording.now c.args.pattern.now
-    (is_passed _ c.in_ok-records.ensures.outcome))
-
-pub returns-in-None : goal.returns-in-None
-returns-in-None c =
-    let none = rw (c.in-None.is, c.new.ensures, c.in_ok-records.ensures.events)
-    at c.in_ok-decide.ensures in
-    rw none at (verdict_accepted c.args.recording.now c.args.pattern.now
+pub returns : goal.returns
+returns c =
+    let decided = decided-verdict _ _ _ _ c.in_ok-decide.ensures in
+    let is = rw (c.new-trace.ensures, c.in_ok-records.ensures.events) at decided in
+    rw is at (verdict_accepted c.args.recording.now c.args.pattern.now
     (is_passed _ c.in_ok-records.ensures.outcome))

@@ -24,32 +24,32 @@ returns-in_err-decide c =
       output = y;
     }
 
-pub returns-in-None : goal.returns-in-None
-returns-in-None c =
+pub returns-in-Not : goal.returns-in-Not
+returns-in-Not c =
     let a = c.args in
-    let not = rw c.in-None.is at c.in_ok-decide.ensures in
+    let not = rw c.in-Not.is at c.in_ok-decide.ensures in
     let (x, y) = witness_from-not (decode_all a.trace.now.records.bytes.now) a.pattern.now a.out.now not in
     record { answer = x; output = y }
 
-pub returns-in_err-deliver-in-Some : goal.returns-in_err-deliver-in-Some
-returns-in_err-deliver-in-Some c =
+pub returns-in_err-deliver-in-Deadlock : goal.returns-in_err-deliver-in-Deadlock
+returns-in_err-deliver-in-Deadlock c =
     let a = c.args in
-    let (is, front) = rw c.in-Some.is at c.in_ok-decide.ensures in
-    let delivered = c.in_err-deliver-in-Some.ensures in
+    let (is, front) = rw c.in-Deadlock.is at c.in_ok-decide.ensures in
+    let delivered = c.in_err-deliver-in-Deadlock.ensures in
     let (x, y) = witness_from_deadlock (decode_all a.trace.now.records.bytes.now) a.pattern.now a.out.now is _
     front in
     record {
-      answer = rw (passed_on c.from_residual-in_err-deliver-in-Some.result _
-          c.from_residual-in_err-deliver-in-Some.ensures.1)
+      answer = rw (passed_on c.from_residual-in_err-deliver-in-Deadlock.result _
+          c.from_residual-in_err-deliver-in-Deadlock.ensures.1)
           (ap (answer_by (Some Deadlock)) delivered.answer ∙ x);
       output = delivered.output ∙ y;
     }
 
-pub returns-in_ok-deliver-in-Some : goal.returns-in_ok-deliver-in-Some
-returns-in_ok-deliver-in-Some c =
+pub returns-in_ok-deliver-in-Deadlock : goal.returns-in_ok-deliver-in-Deadlock
+returns-in_ok-deliver-in-Deadlock c =
     let a = c.args in
-    let (is, front) = rw c.in-Some.is at c.in_ok-decide.ensures in
-    let delivered = c.in_ok-deliver-in-Some.ensures in
+    let (is, front) = rw c.in-Deadlock.is at c.in_ok-decide.ensures in
+    let delivered = c.in_ok-deliver-in-Deadlock.ensures in
     let (x, y) = witness_from_deadlock (decode_all a.trace.now.records.bytes.now) a.pattern.now a.out.now is _
     front in
     record { answer = ap (answer_by (Some Deadlock)) delivered.answer ∙ x; output = delivered.output ∙ y }

@@ -11,7 +11,7 @@ pub loop-t-smaller : goal.loop-t-smaller
 loop-t-smaller c =
     let a = c.loop-t.self in
     let b = c.args.trace.now.records.bytes.now in
-    round_less (decode_all b) c.args.self.now.want a.frontier.front a.want a.frontier.latest
+    round_less (decode_all b) c.args.self.now.want a.front a.want a.latest
     c.loop-t.invariant
     (omega (arith, c.args.trace.now.records.short, decode_all-length b)) _ c.in-Some.ensures _ _ _
     c.turn.ensures
@@ -20,5 +20,5 @@ pub returns : goal.returns
 returns c =
     let a = c.loop-t.self in
     let b = c.args.trace.now.records.bytes.now in
-    round_end (decode_all b) c.args.self.now.want a.frontier.front a.want a.frontier.latest c.loop-t.invariant
+    round_end (decode_all b) c.args.self.now.want a.front a.want a.latest c.loop-t.invariant
     (sound c.args.trace.now.records) c.in_default.ensures

@@ -8,8 +8,8 @@ use Rattle.frontier.proofs.Advance.run.Given as goal
 
 abbrev pub invariant-loop-t : goal.invariant-loop-t
 invariant-loop-t l =
-    Round (decode_all l.trace.records.bytes.now) l.initial.self.want l.self.frontier.front l.self.want
-    l.self.frontier.latest
+    Round (decode_all l.trace.records.bytes.now) l.initial.self.want l.self.front l.self.want
+    l.self.latest
 
 abbrev pub decreases-loop-t : goal.decreases-loop-t
-decreases-loop-t l = 65536 - total l.self.frontier.front
+decreases-loop-t l = 65536 - total l.self.front

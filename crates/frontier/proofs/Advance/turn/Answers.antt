@@ -19,8 +19,8 @@ begun : (c : goal.After-begin-end) → let s = c.begin-end.new.self in
     let old = c.args.self.now in
     let t = c.args.t in
     let first = get_or old.want t 0 in
-    Turning (decode_all c.args.trace.now.records.bytes.now) (set s.frontier.front t first) old.want s.want
-    s.frontier.latest t (get_or old.frontier.front t 0) c.begin-end.result first
+    Turning (decode_all c.args.trace.now.records.bytes.now) (set s.front t first) old.want s.want
+    s.latest t (get_or old.front t 0) c.begin-end.result first
 begun c =
     let records = c.args.trace.now.records in
     rw c.begin-end.ensures.wanted
@@ -45,21 +45,21 @@ visit-requires c =
     let e = event (goal.at.visit-requires c).In-loop-f in
     (e.0, omega (arith, e, decode_all-length c.args.trace.now.records.bytes.now))
 
-pub predecessor-next-requires : goal.predecessor-next-requires
-predecessor-next-requires c =
-    let e = event (goal.at.predecessor-next-requires c).In-loop-f in
+pub predecessor-f-requires : goal.predecessor-f-requires
+predecessor-f-requires c =
+    let e = event (goal.at.predecessor-f-requires c).In-loop-f in
     (e.0, omega (arith, e, decode_all-length c.args.trace.now.records.bytes.now))
 
 pub loop-f-smaller : goal.loop-f-smaller
 loop-f-smaller c =
     let low = predecessor_below (decode_all c.args.trace.now.records.bytes.now) c.loop-f.f in
-    omega (arith, c.predecessor-next.ensures, low, event (goal.at.loop-f-smaller c).In-loop-f)
+    omega (arith, c.predecessor-f.ensures, low, event (goal.at.loop-f-smaller c).In-loop-f)
 
 pub loop-f-preserved : goal.loop-f-preserved
 loop-f-preserved c =
     let records = c.args.trace.now.records in
     let k = c.loop-f.invariant in
-    rw (c.predecessor-next.ensures, c.visit.ensures) record {
+    rw (c.predecessor-f.ensures, c.visit.ensures) record {
       turning = turning-step _ (sound records) _ _ _ _ _ _ _ _ k.turning
           c.loop-f-test.true;
       front_is = k.front_is;
@@ -71,8 +71,8 @@ returns c =
     let t = c.args.t in
     let records = c.args.trace.now.records in
     let k = c.loop-f.invariant in
-    let front = ap (λ (a : Advance). set a.frontier.front t (get_or old.want t 0))
+    let front = ap (λ (a : Advance). set a.front t (get_or old.want t 0))
     c.begin-end.ensures.wanted in
     rw k.front_is
-    (turning_end _ (sound records) old.frontier.front
+    (turning_end _ (sound records) old.front
     (begun (goal.at.returns c).After-begin-end) k.turning c.loop-f-test.false front)

@@ -8,9 +8,9 @@ use Rattle.frontier.proofs.Advance.turn.Given as goal
 
 abbrev pub invariant-loop-f : goal.invariant-loop-f
 invariant-loop-f l = record {
-  turning : Turning (decode_all l.trace.records.bytes.now) l.initial.self.frontier.front l.initial.self.want
-      l.self.want l.self.frontier.latest l.t (get_or l.fn.self.frontier.front l.t 0) l.end l.f;
-  front_is : l.self.frontier.front ≡ l.initial.self.frontier.front;
+  turning : Turning (decode_all l.trace.records.bytes.now) l.initial.self.front l.initial.self.want
+      l.self.want l.self.latest l.t (get_or l.fn.self.front l.t 0) l.end l.f;
+  front_is : l.self.front ≡ l.initial.self.front;
 }
 
 abbrev pub decreases-loop-f : goal.decreases-loop-f

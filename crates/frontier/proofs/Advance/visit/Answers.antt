@@ -41,26 +41,20 @@ pub returns-then-matching-f : goal.returns-then-matching-f
 returns-then-matching-f c =
     let u = unpacked (goal.at.returns-then-matching-f c).Start 2 _ c.in-Acquire.ensures c.matching.ensures in
     let a = c.args.self.now in
-    let (want, latest) = acquire_visited u a.want a.frontier.latest refl c.if-matching-f.true (refl, refl) in
+    let (want, latest) = acquire_visited u a.want a.latest refl c.if-matching-f.true (refl, refl) in
     c.visit_acquire.ensures ∙ rw (want, latest) refl
 
 pub returns-else-matching-f : goal.returns-else-matching-f
 returns-else-matching-f c =
     let u = unpacked (goal.at.returns-else-matching-f c).Start 2 _ c.in-Acquire.ensures c.matching.ensures in
     let a = c.args.self.now in
-    let (want, latest) = uncounted_visited u a.want a.frontier.latest refl c.if-matching-f.false in
-    λ i. record {
-      frontier = record { front = a.frontier.front; latest = latest i };
-      want = want i;
-    }
+    let (want, latest) = uncounted_visited u a.want a.latest refl c.if-matching-f.false in
+    λ i. record a { latest = latest i; want = want i }
 
 pub returns-in_default : goal.returns-in_default
 returns-in_default c =
     let u = unpacked (goal.at.returns-in_default c).Start _ _ c.operation.ensures refl in
     let a = c.args.self.now in
-    let (want, latest) = other_visited u _ a.frontier.latest (code_apart _ Acquire c.in_default.not-Acquire)
+    let (want, latest) = other_visited u _ a.latest (code_apart _ Acquire c.in_default.not-Acquire)
     c.awaited.ensures refl in
-    c.want_event.ensures ∙ (λ i. record {
-      frontier = record { front = a.frontier.front; latest = latest i };
-      want = want i;
-    })
+    c.want_event.ensures ∙ (λ i. record a { latest = latest i; want = want i })

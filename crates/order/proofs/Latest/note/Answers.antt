@@ -31,14 +31,14 @@ returns-in-Acquire c =
 
 pub returns-else-o-ge64 : goal.returns-else-o-ge64
 returns-else-o-ge64 c =
-    let k = c.operation.result in
-    event_alone c.requires.4 c.operation.ensures c.object-o.ensures
+    let k = c.operation-op.result in
+    event_alone c.requires.4 c.operation-op.ensures c.object-o.ensures
     c.task.ensures (code_apart k Write c.in_default.not-Write)
-    (is_start_lock _ c.args.e c.operation.ensures (omega (arith, c.object-o.ensures, c.if-o-ge64.false)))
+    (is_start_lock _ c.args.e c.operation-op.ensures (omega (arith, c.object-o.ensures, c.if-o-ge64.false)))
 
 pub returns-in_default-other : goal.returns-in_default-other
 returns-in_default-other c =
-    let k = c.operation.result in
-    event_alone c.requires.4 c.operation.ensures c.object-o.ensures
+    let k = c.operation-op.result in
+    event_alone c.requires.4 c.operation-op.ensures c.object-o.ensures
     c.task.ensures (code_apart k Write c.in_default.not-Write)
-    (is_start-none _ c.args.e c.operation.ensures (code_apart k Acquire c.in_default-other.not-Acquire))
+    (is_start-none _ c.args.e c.operation-op.ensures (code_apart k Acquire c.in_default-other.not-Acquire))

@@ -1,19 +1,15 @@
 -- `recording::Locks::enter` meets its contract: each return cites the law of its case. Assumes nothing.
 use native.Mathlib.Omega.{arith}
 use Rattle.model.specs.Recording.{decode_all}
-use Rattle.laws.proofs.Trace.{enters-object}
 use Rattle.recording.proofs.Locking.{Locked, depth-fits, enter_refused, enter_first, enter-again}
 use Rattle.recording.proofs.Locks.enter.Goals as goal
 use Rattle.recording.proofs.Locks.enter.Goals.{After-task-own}
 
-pub lock-l-requires : goal.lock-l-requires
-lock-l-requires c = (c.requires.0, c.requires.1, enters-object _ _ c.requires.2)
-
 -- The event's task and lock.
 unpacked : (c : goal.After-task-own)
-    → Locked (decode_all c.args.records.now.bytes.now) c.args.e c.task-own.result c.lock-l.result
+    → Locked (decode_all c.args.records.now.bytes.now) c.args.e c.task-own.result c.args.l
     c.args.self.now.holders c.args.self.now.depths
-unpacked c = record { task_is = c.task-own.ensures; object_is = c.lock-l.ensures; held = c.requires.3 }
+unpacked c = record { task_is = c.task-own.ensures; object_is = (c.requires.3, c.requires.4); held = c.requires.5 }
 
 pub returns-then-self-l-eq0 : goal.returns-then-self-l-eq0
 returns-then-self-l-eq0 c =

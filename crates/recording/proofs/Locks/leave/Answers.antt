@@ -1,18 +1,14 @@
 -- `recording::Locks::leave` meets its contract: each return cites the law of its case. Assumes nothing.
 use Rattle.model.specs.Recording.{decode_all}
-use Rattle.laws.proofs.Trace.{leaves-object}
 use Rattle.recording.proofs.Locking.{Locked, leave_refused, leave_freed, leave-kept}
 use Rattle.recording.proofs.Locks.leave.Goals as goal
 use Rattle.recording.proofs.Locks.leave.Goals.{After-task}
 
-pub lock-l-requires : goal.lock-l-requires
-lock-l-requires c = (c.requires.0, c.requires.1, leaves-object _ _ c.requires.2)
-
 -- The event's task and lock.
 unpacked : (c : goal.After-task)
-    → Locked (decode_all c.args.records.now.bytes.now) c.args.e c.task.result c.lock-l.result
+    → Locked (decode_all c.args.records.now.bytes.now) c.args.e c.task.result c.args.l
     c.args.self.now.holders c.args.self.now.depths
-unpacked c = record { task_is = c.task.ensures; object_is = c.lock-l.ensures; held = c.requires.3 }
+unpacked c = record { task_is = c.task.ensures; object_is = (c.requires.3, c.requires.4); held = c.requires.5 }
 
 pub returns-then-self-l-clause-fault : goal.returns-then-self-l-clause-fault
 returns-then-self-l-clause-fault c =

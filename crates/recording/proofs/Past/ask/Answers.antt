@@ -36,7 +36,7 @@ enter-requires c =
     let s = c.requires in
     let entered = enters_is _ _ c.in-Acquire.ensures (omega (arith, c.if-at-ge64.false, c.object-at.ensures))
     refl in
-    (s.0, s.1, entered, s.2.holder)
+    (s.0, s.1, entered, c.if-at-ge64.false, c.object-at.ensures.1, s.2.holder)
 
 pub returns-in_err-enter-in-Acquire : goal.returns-in_err-enter-in-Acquire
 returns-in_err-enter-in-Acquire c =
@@ -62,7 +62,7 @@ leave-requires c =
     let s = c.requires in
     let left = leaves_is _ _ (release (goal.at.leave-requires c).In_default-op)
     (omega (arith, c.if-at-ge64.false, c.object-at.ensures)) refl in
-    (s.0, s.1, left, s.2.holder)
+    (s.0, s.1, left, c.if-at-ge64.false, c.object-at.ensures.1, s.2.holder)
 
 pub returns-in_err-leave-in_default-op : goal.returns-in_err-leave-in_default-op
 returns-in_err-leave-in_default-op c =

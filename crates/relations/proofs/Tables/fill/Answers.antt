@@ -8,7 +8,7 @@ use Rattle.relations.proofs.Tables.fill.Goals as goal
 pub loop-e-init : goal.loop-e-init
 loop-e-init c =
     let σ = decode_all c.args.records.now.bytes.now in (
-      record { section = c.new.ensures σ; latest = c.new-2.ensures σ },
+      record { section = c.new-sections.ensures σ; latest = c.new-latest.ensures σ },
       record { at = λ f h k. absurd (omega arith) },
     )
 

@@ -40,7 +40,7 @@ returns-in-Release c =
     let is = is_release-kind (decode_all b) c.args.e c.kind_of-kind.ensures.code_is in
     let release : T (is_release (decode_all b) c.args.e) = rw (is, c.in-Release.is) tt in
     let (noted, long, inside) = kept (goal.at.returns-in-Release c).After-put in (
-      record { section = c.note.ensures; latest = c.note-2.ensures },
+      record { section = c.note-2.ensures; latest = c.note.ensures },
       rw c.put.ensures (release_noted noted long inside c.row_of-row.ensures.1 (sound r)
           (record-event b c.args.e (c.requires.0, c.requires.1)) release),
     )
@@ -51,6 +51,6 @@ returns-in_default c =
     let is = is_release-kind _ c.args.e c.kind_of-kind.ensures.code_is in
     let none = is ∙ ne_eqb (kind_code k) 3 (kind_apart k Release c.in_default.not-Release) in
     let (noted, long, inside) = kept (goal.at.returns-in_default c).After-put in (
-      record { section = c.note.ensures; latest = c.note-2.ensures },
+      record { section = c.note-2.ensures; latest = c.note.ensures },
       rw c.put.ensures (row_noted noted long inside c.row_of-row.ensures.1 none),
     )

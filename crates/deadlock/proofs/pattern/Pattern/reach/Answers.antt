@@ -14,7 +14,7 @@ use Rattle.deadlock.proofs.Verdicts.{before-next}
 use Rattle.deadlock.proofs.pattern.Pattern.reach.Goals as goal
 
 pub loop-i-init : goal.loop-i-init
-loop-i-init c = rw c.empty-frontier.ensures (before-start _ _ _ refl refl)
+loop-i-init c = before-start _ _ _ refl refl
 
 pub loop-i-preserved : goal.loop-i-preserved
 loop-i-preserved c =

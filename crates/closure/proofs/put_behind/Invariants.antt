@@ -1,4 +1,4 @@
--- `closure::set_behind` meets its contract: the events passed are in it where they are behind the frontier.
+-- `closure::put_behind` meets its contract: the events passed are in it where they are behind the frontier.
 -- Assumes nothing.
 use Prim.Native.Nat.{ℕ, suc, ◌-◌}
 use mathlib.Core.Path.{◌≡◌}
@@ -8,7 +8,7 @@ use lib.ListN.{get_or}
 use Rattle.model.specs.Trace.{task}
 use Rattle.model.specs.Recording.{decode_all}
 use Rattle.laws.specs.BitRow.{row_bit}
-use Rattle.closure.proofs.set_behind.Given as goal
+use Rattle.closure.proofs.put_behind.Given as goal
 
 abbrev pub invariant-loop-e : goal.invariant-loop-e
 invariant-loop-e l =

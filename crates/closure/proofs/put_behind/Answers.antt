@@ -1,4 +1,4 @@
--- `closure::set_behind` meets its contract: the events passed are in it where they are behind the frontier.
+-- `closure::put_behind` meets its contract: the events passed are in it where they are behind the frontier.
 -- Assumes nothing.
 use Prim.Native.Nat.{◌-◌}
 use mathlib.Core.Path.{◌≡◌, refl}
@@ -7,10 +7,10 @@ use lib.ListN.{length}
 use Rattle.model.specs.Recording.{decode_all}
 use Rattle.laws.proofs.Trace.{decode_all-length}
 use Rattle.closure.proofs.Sets.{row-none}
-use Rattle.closure.proofs.set_behind.Goals as goal
+use Rattle.closure.proofs.put_behind.Goals as goal
 
 pub loop-e-init : goal.loop-e-init
-loop-e-init c = λ i. row-none _ i _ refl
+loop-e-init c = λ i. rw c.requires (row-none _ i _ refl)
 
 pub returns : goal.returns
 returns c =
