@@ -50,8 +50,8 @@ struct Row {
     matching: u16,
 }
 
-// What the rows of later events ask for of the earlier ones. Both are lent: as values they would be moved here
-// by a call of memcpy.
+// What the rows of later events ask for of the earlier ones. Both are lent: as values they would be moved
+// here by a call of memcpy.
 #[derive(Drop)]
 struct Walk<'a> {
     sections: &'a mut OpenSections,

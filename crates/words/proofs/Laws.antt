@@ -76,7 +76,7 @@ word_row n i h =
 
 -- ---- bytes into words
 
--- A word made of eight bytes, which are up to eight others and zeros after them, has the row of these.
+-- A word made of eight bytes, the first eight of others, or all of these and zeros after them, has their row.
 pub row_word : (n : ℕ) (b p : List ℕ) → length p ≡ 8 → ((k : ℕ) → get_or b k 0 < 256)
     → ((k : ℕ) → k < 8 → get_or p k 0 ≡ get_or b k 0) → n ≡ from_be_bytes w64 p → (i : ℕ) → i < 64
     → has_bit n (63 - i) ≡ row_bit 8 b i

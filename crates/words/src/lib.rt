@@ -23,9 +23,8 @@ pub fn put(words: &mut [u64], e: usize)
     words[(e - 1) / 64] |= 1 << (63 - (e - 1) % 64);
 }
 
-// Up to eight bytes as a word, the first at its top; the places after them are clear.
+// The first eight bytes as a word, the first at its top; with fewer, the places after them are clear.
 fn word_of(bytes: &[u8]) -> u64
-    requires { length bytes.now ≤ 8 }
     ensures { (i : ℕ) → i < 64 → has_bit result (63 - i) ≡ row_bit 8 bytes.now i }
 {
     let mut padded = [0; 8];

@@ -9,7 +9,11 @@ use Rattle.recording.proofs.Locks.enter.Goals.{After-task-own}
 unpacked : (c : goal.After-task-own)
     → Locked (decode_all c.args.records.now.bytes.now) c.args.e c.task-own.result c.args.l
     c.args.self.now.holders c.args.self.now.depths
-unpacked c = record { task_is = c.task-own.ensures; object_is = (c.requires.3, c.requires.4); held = c.requires.5 }
+unpacked c = record {
+  task_is = c.task-own.ensures;
+  object_is = (c.requires.3, c.requires.4);
+  held = c.requires.5;
+}
 
 pub returns-then-self-l-eq0 : goal.returns-then-self-l-eq0
 returns-then-self-l-eq0 c =

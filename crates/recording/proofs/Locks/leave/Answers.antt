@@ -8,7 +8,11 @@ use Rattle.recording.proofs.Locks.leave.Goals.{After-task}
 unpacked : (c : goal.After-task)
     → Locked (decode_all c.args.records.now.bytes.now) c.args.e c.task.result c.args.l
     c.args.self.now.holders c.args.self.now.depths
-unpacked c = record { task_is = c.task.ensures; object_is = (c.requires.3, c.requires.4); held = c.requires.5 }
+unpacked c = record {
+  task_is = c.task.ensures;
+  object_is = (c.requires.3, c.requires.4);
+  held = c.requires.5;
+}
 
 pub returns-then-self-l-clause-fault : goal.returns-then-self-l-clause-fault
 returns-then-self-l-clause-fault c =

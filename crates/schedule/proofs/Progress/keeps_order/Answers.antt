@@ -1,5 +1,5 @@
--- `schedule::Progress::keeps_order` meets its contract: before each number the tables hold what is listed, and the rest
--- of the schedule decides. Assumes nothing.
+-- `schedule::Progress::keeps_order` meets its contract: before each number the tables hold what is listed,
+-- and the rest of the schedule decides. Assumes nothing.
 use mathlib.Core.Path.{sym}
 use Rattle.model.specs.Recording.{decode_all}
 use Rattle.schedule.proofs.Walk.{Turn, follows_in, walking_start}

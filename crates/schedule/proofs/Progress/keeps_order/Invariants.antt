@@ -1,5 +1,5 @@
--- `schedule::Progress::keeps_order` meets its contract: before each number the tables hold what is listed, and the rest
--- of the schedule decides. Assumes nothing.
+-- `schedule::Progress::keeps_order` meets its contract: before each number the tables hold what is listed,
+-- and the rest of the schedule decides. Assumes nothing.
 use Rattle.model.specs.Recording.{decode_all}
 use Rattle.model.specs.Bytes.{numbers}
 use Rattle.schedule.proofs.Walk.{Walking}
